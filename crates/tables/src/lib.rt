@@ -1,0 +1,16 @@
+mod append;
+pub mod capacities;
+pub mod enter;
+pub mod ids;
+mod names;
+pub mod numbers;
+pub mod open;
+mod part;
+pub mod reads;
+pub mod result;
+mod same;
+pub mod storage;
+mod structure;
+mod term_types;
+pub mod terms;
+pub mod types;
