@@ -56,3 +56,15 @@ opening c =
       lists = 0;
       capacities = c;
     }
+
+-- How many cells of each table are in use; there are no rows yet.
+abbrev pub inUse : Contents → Capacities
+inUse w =
+    record {
+      terms = length (w .terms);
+      types = length (w .types);
+      names = length (w .names);
+      bytes = w .bytes;
+      lists = w .lists;
+      rows = 0;
+    }

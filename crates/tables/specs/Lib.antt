@@ -6,3 +6,4 @@ pub mod Contents
 pub mod Kinds
 pub mod Refusals
 pub mod Opening
+pub mod Shapes

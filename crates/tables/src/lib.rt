@@ -1,10 +1,12 @@
 mod append;
 pub mod capacities;
 pub mod enter;
+pub mod fits;
 pub mod ids;
 mod names;
 pub mod numbers;
 pub mod open;
+mod order;
 mod part;
 pub mod reads;
 pub mod result;
@@ -14,3 +16,4 @@ mod structure;
 mod term_types;
 pub mod terms;
 pub mod types;
+pub mod usage;
