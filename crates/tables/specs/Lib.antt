@@ -7,3 +7,4 @@ pub mod Kinds
 pub mod Refusals
 pub mod Opening
 pub mod Shapes
+pub mod Calls

@@ -1,0 +1,11 @@
+use borrow.Author.Needs.{needs}
+use Rattle.tables.specs.Calls.{nameCall}
+use Rattle.workbench.proofs.enter.name.Needs as need
+
+pub returns-then-bytes-gt255 : need.returns-then-bytes-gt255
+unfolding nameCall
+returns-then-bytes-gt255 c = search needs
+
+pub returns : need.returns
+unfolding nameCall
+returns c = search needs

@@ -1,0 +1,54 @@
+ghost use mathlib.Core.Path.{_≡_};
+ghost use denote.Ref.{now};
+ghost use Rattle.tables.specs.Spans.{withFields};
+ghost use Rattle.tables.specs.Contents.{contents};
+ghost use Rattle.tables.specs.Opening.{Opened};
+ghost use Rattle.tables.specs.Kinds.{Now};
+ghost use Rattle.tables.specs.Calls.{nameCall, typeCall};
+use crate::draft::*;
+use crate::enter;
+use std::alloc::Global;
+use tables::capacities::*;
+use tables::ids::*;
+use tables::result::*;
+use tables::storage::*;
+use tables::types::*;
+
+impl Draft {
+    // A new workbench.
+    pub fn open(heap: Global, capacities: Capacities) -> Result<Draft, CompileError>
+        ensures { λ r. ⌜ Opened (λ d. contents (d .tables)) capacities r ⌝ }
+    {
+        let tables = Tables::open(heap, capacities)?;
+        Ok(Draft { tables })
+    }
+
+    // Enters a name.
+    pub fn name(&mut self, bytes: &[u8]) -> Result<NameId, CompileError>
+        ensures { λ r. ⌜ Now (nameCall (now (bytes .entry)) (contents (now (self .entry) .tables))) r (contents (now (self .exit) .tables)) ⌝ }
+    {
+        enter::name(&mut self.tables, bytes)
+    }
+
+    // Enters a type.
+    pub fn term_type(&mut self, t: TermType<&[FieldType]>) -> Result<TypeId, CompileError>
+        ensures { λ r. ⌜ Now (typeCall (withFields now (t .entry)) (contents (now (self .entry) .tables))) r (contents (now (self .exit) .tables)) ⌝ }
+    {
+        enter::term_type(&mut self.tables, t)
+    }
+
+    // Ends the declaration of rows.
+    pub fn seal(self) -> Sealed
+        ensures { λ r. ⌜ contents (r .tables) ≡ contents (self .tables) ⌝ }
+    {
+        let Draft { tables } = self;
+        Sealed { tables }
+    }
+
+    // What the workbench holds.
+    pub fn tables(&self) -> &Tables
+        ensures { λ r. ⌜ now r ≡ now (self .entry) .tables ⌝ }
+    {
+        &self.tables
+    }
+}

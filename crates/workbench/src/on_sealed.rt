@@ -1,0 +1,35 @@
+ghost use mathlib.Core.Path.{_≡_};
+ghost use denote.Ref.{now};
+ghost use Rattle.tables.specs.Spans.{withFields};
+ghost use Rattle.tables.specs.Contents.{contents};
+ghost use Rattle.tables.specs.Kinds.{Now};
+ghost use Rattle.tables.specs.Calls.{nameCall, typeCall};
+use crate::draft::*;
+use crate::enter;
+use tables::ids::*;
+use tables::result::*;
+use tables::storage::*;
+use tables::types::*;
+
+impl Sealed {
+    // Enters a name.
+    pub fn name(&mut self, bytes: &[u8]) -> Result<NameId, CompileError>
+        ensures { λ r. ⌜ Now (nameCall (now (bytes .entry)) (contents (now (self .entry) .tables))) r (contents (now (self .exit) .tables)) ⌝ }
+    {
+        enter::name(&mut self.tables, bytes)
+    }
+
+    // Enters a type.
+    pub fn term_type(&mut self, t: TermType<&[FieldType]>) -> Result<TypeId, CompileError>
+        ensures { λ r. ⌜ Now (typeCall (withFields now (t .entry)) (contents (now (self .entry) .tables))) r (contents (now (self .exit) .tables)) ⌝ }
+    {
+        enter::term_type(&mut self.tables, t)
+    }
+
+    // What the workbench holds.
+    pub fn tables(&self) -> &Tables
+        ensures { λ r. ⌜ now r ≡ now (self .entry) .tables ⌝ }
+    {
+        &self.tables
+    }
+}
