@@ -1,6 +1,7 @@
 -- Lists of calls, what each answers, and what the tables hold afterwards.
 use mathlib.Core.List.{List, [], _∷_, _++_}
 use Prim.Native.Nat.{ℕ}
+use denote.Ref.{now}
 use Rattle.std.specs.declared.result.Result.{Result}
 use Rattle.std.specs.declared.result.Result.the-variants.{Ok, Err}
 use Rattle.tables.specs.declared.capacities.Capacities.{Capacities}
@@ -9,6 +10,11 @@ use Rattle.tables.specs.Types.{Type′}
 use Rattle.tables.specs.Contents.{Contents, opening}
 use Rattle.tables.specs.Kinds.{Outcome, Step, answering}
 use Rattle.tables.specs.Calls.{nameCall, typeCall}
+use Rattle.tables.specs.Spans.{withFields}
+use Rattle.workbench.specs.declared.calls.DraftCall.{DraftCall}
+use Rattle.workbench.specs.declared.calls.DraftCall.the-variants.{Name as DName, «Type» as DType}
+use Rattle.workbench.specs.declared.calls.SealedCall.{SealedCall}
+use Rattle.workbench.specs.declared.calls.SealedCall.the-variants.{Name as SName, «Type» as SType}
 use Rattle.workbench.specs.declared.calls.Reply.{Reply}
 use Rattle.workbench.specs.declared.calls.Reply.the-variants.{Name, «Type» as TypeR}
 
@@ -47,3 +53,12 @@ runs k ds ss =
     let d = calls draftCall ds (opening k) in
     let s = calls sealedCall ss (d .0) in
     (s .0, d .1 ++ s .1)
+
+-- The calls that the code's values stand for.
+abbrev pub onDraft : DraftCall → OnDraft
+onDraft (DName s) = draftName (now s)
+onDraft (DType t) = draftType (withFields now t)
+
+abbrev pub onSealed : SealedCall → OnSealed
+onSealed (SName s) = sealedName (now s)
+onSealed (SType t) = sealedType (withFields now t)

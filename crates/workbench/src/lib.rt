@@ -3,3 +3,4 @@ pub mod draft;
 mod enter;
 pub mod on_draft;
 pub mod on_sealed;
+pub mod run;

@@ -5,6 +5,8 @@ ghost use Rattle.tables.specs.Contents.{contents};
 ghost use Rattle.tables.specs.Opening.{Opened};
 ghost use Rattle.tables.specs.Kinds.{Now};
 ghost use Rattle.tables.specs.Calls.{nameCall, typeCall};
+ghost use Rattle.workbench.specs.Runs.{draftCall, onDraft};
+use crate::calls::*;
 use crate::draft::*;
 use crate::enter;
 use std::alloc::Global;
@@ -50,5 +52,21 @@ impl Draft {
         ensures { λ r. ⌜ now r ≡ now (self .entry) .tables ⌝ }
     {
         &self.tables
+    }
+
+    // One call of a list.
+    pub fn call(&mut self, call: DraftCall) -> Result<Reply, CompileError>
+        ensures { λ r. ⌜ Now (draftCall (onDraft (call .entry)) (contents (now (self .entry) .tables))) r (contents (now (self .exit) .tables)) ⌝ }
+    {
+        match call {
+            DraftCall::Name(bytes) => {
+                let n = self.name(bytes)?;
+                Ok(Reply::Name(n))
+            }
+            DraftCall::Type(t) => {
+                let n = self.term_type(t)?;
+                Ok(Reply::Type(n))
+            }
+        }
     }
 }

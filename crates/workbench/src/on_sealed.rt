@@ -4,6 +4,8 @@ ghost use Rattle.tables.specs.Spans.{withFields};
 ghost use Rattle.tables.specs.Contents.{contents};
 ghost use Rattle.tables.specs.Kinds.{Now};
 ghost use Rattle.tables.specs.Calls.{nameCall, typeCall};
+ghost use Rattle.workbench.specs.Runs.{sealedCall, onSealed};
+use crate::calls::*;
 use crate::draft::*;
 use crate::enter;
 use tables::ids::*;
@@ -31,5 +33,21 @@ impl Sealed {
         ensures { λ r. ⌜ now r ≡ now (self .entry) .tables ⌝ }
     {
         &self.tables
+    }
+
+    // One call of a list.
+    pub fn call(&mut self, call: SealedCall) -> Result<Reply, CompileError>
+        ensures { λ r. ⌜ Now (sealedCall (onSealed (call .entry)) (contents (now (self .entry) .tables))) r (contents (now (self .exit) .tables)) ⌝ }
+    {
+        match call {
+            SealedCall::Name(bytes) => {
+                let n = self.name(bytes)?;
+                Ok(Reply::Name(n))
+            }
+            SealedCall::Type(t) => {
+                let n = self.term_type(t)?;
+                Ok(Reply::Type(n))
+            }
+        }
     }
 }
