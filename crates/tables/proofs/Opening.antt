@@ -1,32 +1,20 @@
 -- The names that opening enters find room.
 use mathlib.Core.Path.{_≡_, refl, sym, ap, subst, _∙_}
 use mathlib.Core.List.{List, [], _∷_}
-use mathlib.Core.Bool.{Bool, true, cond, _&&_}
+use mathlib.Core.Bool.{true}
 use Prim.Native.Nat.{ℕ, _+_, _-_, _≤_, _<_}
 use native.Mathlib.Omega.{arith}
 use lib.Chars.{codes}
-use lib.Dec.{leb, ltb}
-use lib.ListN.{length}
-use borrow.Author.Tests.{le-leb, lt-ltb}
-use Rattle.std.proofs.shelf.Tests.{and-from}
-use Rattle.std.specs.declared.option.Option.{Option}
-use Rattle.std.specs.declared.option.Option.the-variants.{Some, None}
 use Rattle.std.specs.declared.result.Result.{Result}
 use Rattle.std.specs.declared.result.Result.the-variants.{Ok, Err}
 use Rattle.tables.specs.declared.capacities.Capacities.{Capacities}
 use Rattle.tables.specs.declared.ids.NameId.{NameId}
 use Rattle.tables.specs.declared.result.CompileError.{CompileError}
-use Rattle.tables.specs.declared.result.Table.the-variants.{Names}
 use Rattle.tables.specs.Ranges.{inRange}
 use Rattle.tables.specs.Contents.{Contents, nameless, opening}
 use Rattle.tables.specs.Kinds.{Outcome, Now, nameKind, firstFrom, find, putUnless, enter, enterName, answering}
 use Rattle.tables.proofs.Ranges.{ranged}
-
--- A name that is not held, where there is room.
-room : (s : List ℕ) (w : Contents) → length (w .names) < w .capacities .names → length s ≤ w .capacities .bytes - w .bytes → nameKind .lacking s w ≡ None
-room s w l h =
-    ap (λ b. cond b None (Some Names))
-    (and-from (ltb (length (w .names)) (w .capacities .names)) (leb (length s) (w .capacities .bytes - w .bytes)) (lt-ltb _ _ l) (le-leb _ _ h))
+use Rattle.tables.proofs.Room.{room-name}
 
 module _ (c : Capacities) (e : inRange c ≡ true) where
   abbrev one : Contents
@@ -37,14 +25,14 @@ module _ (c : Capacities) (e : inRange c ≡ true) where
   first-name =
       let r = ranged c e in
       ap (λ o. (putUnless nameKind (codes "entity") o (nameless c) .0, answering (λ n. record { 0 = n }) (putUnless nameKind (codes "entity") o (nameless c) .1)))
-      (room (codes "entity") (nameless c) (omega arith) (omega arith))
+      (room-name (codes "entity") (nameless c) (omega arith) (omega arith))
 
   second-name : enterName (codes "tag") one ≡ (opening c, Ok (record { 0 = 1 }))
   unfolding enterName enter find firstFrom opening
   second-name =
       let r = ranged c e in
       ap (λ o. (putUnless nameKind (codes "tag") o one .0, answering (λ n. record { 0 = n }) (putUnless nameKind (codes "tag") o one .1)))
-      (room (codes "tag") one (omega arith) (omega arith))
+      (room-name (codes "tag") one (omega arith) (omega arith))
 
   -- What the two calls leave and answer, and so that neither is refused.
   module _ {w w₁ : Contents} {r₁ : Result NameId CompileError} (start : w ≡ nameless c) (call₁ : Now (enterName (codes "entity") w) r₁ w₁) where
