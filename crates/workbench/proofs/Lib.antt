@@ -1,2 +1,4 @@
 pub mod Reach
 pub mod Turns
+pub mod Lawful
+pub mod LawOfRuns

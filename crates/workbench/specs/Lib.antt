@@ -1,3 +1,4 @@
 pub mod Runs
 pub mod Reached
 pub mod Ran
+pub mod Law

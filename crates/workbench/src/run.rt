@@ -6,6 +6,7 @@ ghost use Rattle.std.specs.Of.Vec.{vec-items, vec-len, vec-cap};
 ghost use Rattle.tables.specs.Contents.{contents};
 ghost use Rattle.workbench.specs.Runs.{draftCall, sealedCall, onDraft, onSealed, calls as called};
 ghost use Rattle.workbench.specs.Ran.{Ran};
+ghost use Rattle.workbench.specs.Law.{Refused-calls-change-nothing, Larger-workbenches-answer-alike, Each-structure-has-one-number, Numbers-last};
 use crate::calls::*;
 use crate::draft::*;
 use std::alloc::Global;
@@ -63,7 +64,11 @@ pub fn run(
     on_draft: &[DraftCall],
     on_sealed: &[SealedCall],
 ) -> Result<RunResult, CompileError>
-    ensures { λ r. ⌜ Ran capacities (map onDraft (now («on_draft» .entry))) (map onSealed (now («on_sealed» .entry))) r ⌝ }
+    ensures answers { λ r. ⌜ Ran capacities (map onDraft (now («on_draft» .entry))) (map onSealed (now («on_sealed» .entry))) r ⌝ }
+    ensures refused_calls_change_nothing { λ _. ⌜ Refused-calls-change-nothing ⌝ }
+    ensures larger_workbenches_answer_alike { λ _. ⌜ Larger-workbenches-answer-alike ⌝ }
+    ensures each_structure_has_one_number { λ _. ⌜ Each-structure-has-one-number ⌝ }
+    ensures numbers_last { λ _. ⌜ Numbers-last ⌝ }
 {
     let mut draft = Draft::open(heap, capacities)?;
     let Some(count) = on_draft.len().checked_add(on_sealed.len()) else {
