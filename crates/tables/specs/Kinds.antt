@@ -63,8 +63,8 @@ unfoldable pub enter : {A : Type 0} → Kind A → A → Step ℕ
 enter k a w = enterUnless k a (find k a w) w
 
 -- The same kind, of what stands for its structures.
-abbrev pub by : {A B : Type 0} → (B → A) → Kind A → Kind B
-by f k =
+abbrev pub through : {A B : Type 0} → (B → A) → Kind A → Kind B
+through f k =
     record {
       count = k .count;
       held = λ b. k .held (f b);

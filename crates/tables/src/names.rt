@@ -1,5 +1,5 @@
 ghost use denote.Ref.{now};
-ghost use Rattle.tables.specs.Kinds.{by as standing, nameKind};
+ghost use Rattle.tables.specs.Kinds.{through, nameKind};
 use crate::append::append;
 use crate::ids::*;
 use crate::result::*;
@@ -8,7 +8,7 @@ use crate::structure::*;
 use crate::types::*;
 
 pub(crate) impl Structure for Name<'_> as NameStructure {
-    ghost kind = { standing (λ s. now (s .bytes)) nameKind };
+    ghost kind = { through (λ s. now (s .bytes)) nameKind };
 
     fn count(&self, tables: &Tables) -> u16 {
         tables.names.len() as u16

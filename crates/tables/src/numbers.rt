@@ -46,7 +46,7 @@ fn within(low: usize, high: usize, n: usize) -> bool
 
 impl Capacities {
     // Whether a workbench may be opened with them.
-    pub fn in_range(self) -> bool
+    pub(crate) fn in_range(self) -> bool
         ensures { λ r. ⌜ r ≡ inRange self ⌝ }
     {
         within(2, 4096, self.terms)

@@ -1,7 +1,7 @@
 ghost use mathlib.Core.Path.{_≡_};
 ghost use denote.Ref.{now};
 ghost use Rattle.tables.specs.Spans.{withFields};
-ghost use Rattle.tables.specs.Kinds.{by as standing, typeKind};
+ghost use Rattle.tables.specs.Kinds.{through, typeKind};
 use crate::append::append;
 use crate::ids::*;
 use crate::result::*;
@@ -29,7 +29,7 @@ fn stored(t: TermType<&[FieldType]>, span: Span) -> TermType<Span>
 }
 
 pub(crate) impl Structure for TermType<&[FieldType]> as TypeStructure {
-    ghost kind = { standing (withFields now) typeKind };
+    ghost kind = { through (withFields now) typeKind };
 
     fn count(&self, tables: &Tables) -> u16 {
         tables.types.len() as u16

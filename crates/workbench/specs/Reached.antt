@@ -8,9 +8,9 @@ use Rattle.tables.specs.Contents.{Contents}
 use Rattle.workbench.specs.Runs.{OnDraft, OnSealed, runs}
 
 -- The tables of a sealed workbench: some calls on a draft, then some on the sealed one, lead to them.
-abbrev pub Sealed′ : Contents → Type 0
-Sealed′ w = ∥ ((k : Capacities) × (ds : List OnDraft) × (ss : List OnSealed) × (inRange k ≡ true) × (w ≡ runs k ds ss .0)) ∥₁
+abbrev pub ReachedSealed : Contents → Type 0
+ReachedSealed w = ∥ ((k : Capacities) × (ds : List OnDraft) × (ss : List OnSealed) × (inRange k ≡ true) × (w ≡ runs k ds ss .0)) ∥₁
 
 -- The tables of a draft: some calls on a draft lead to them.
-abbrev pub Drafted : Contents → Type 0
-Drafted w = ∥ ((k : Capacities) × (ds : List OnDraft) × (inRange k ≡ true) × (w ≡ runs k ds [] .0)) ∥₁
+abbrev pub ReachedDraft : Contents → Type 0
+ReachedDraft w = ∥ ((k : Capacities) × (ds : List OnDraft) × (inRange k ≡ true) × (w ≡ runs k ds [] .0)) ∥₁

@@ -8,11 +8,14 @@ use tables::result::*;
 use tables::storage::*;
 use tables::types::*;
 
-// Enters a name of at most 255 bytes.
+// The most bytes that a name may have.
+const MAX_NAME: usize = 255;
+
+// Enters a name.
 pub(crate) fn name(tables: &mut Tables, bytes: &[u8]) -> Result<NameId, CompileError>
     ensures { λ r. ⌜ Now (nameCall (now (bytes .entry)) (contents (now (tables .entry)))) r (contents (now (tables .exit))) ⌝ }
 {
-    if bytes.len() > 255 {
+    if bytes.len() > MAX_NAME {
         return Err(CompileError::BadInput);
     }
     tables.enter_name(bytes)

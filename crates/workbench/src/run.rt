@@ -71,10 +71,7 @@ pub fn run(
     ensures numbers_last { λ _. ⌜ Numbers-last ⌝ }
 {
     let mut draft = Draft::open(heap, capacities)?;
-    let Some(count) = on_draft.len().checked_add(on_sealed.len()) else {
-        return Err(CompileError::NoMemory);
-    };
-    let mut answers = Vec::with_capacity(heap, count)?;
+    let mut answers = Vec::with_capacity(heap, on_draft.len() + on_sealed.len())?;
     draft_calls(&mut draft, on_draft, &mut answers);
     let mut workbench = draft.seal();
     sealed_calls(&mut workbench, on_sealed, &mut answers);
