@@ -108,54 +108,73 @@ fn names_of_each_length(rt: LibcRuntime) -> Result<(), Fail> {
     )
 }
 
+// Types without fields, in whichever way fields are given.
+fn long_type<F>() -> TermType<F> {
+    TermType::Long
+}
+
+fn entity<F>(name: NameId) -> TermType<F> {
+    TermType::Entity(name)
+}
+
+fn set_of<F>(part: TypeId) -> TermType<F> {
+    TermType::Set(part)
+}
+
+fn option_of<F>(part: TypeId) -> TermType<F> {
+    TermType::Option(part)
+}
+
+fn record(sealed: &mut Sealed, fields: &[FieldType]) -> Result<TypeId, CompileError> {
+    sealed.term_type(TermType::Record(fields))
+}
+
 #[test]
 fn types_are_held_once(rt: LibcRuntime) -> Result<(), Fail> {
-    let mut draft = Draft::open(rt.alloc(), LARGEST)?;
-    let long = draft.term_type(TermType::Long)?;
-    let option = draft.term_type(TermType::Option(long))?;
-    let entity = draft.name(b"entity")?;
-    let tag = draft.name(b"tag")?;
+    let mut sealed = Draft::open(rt.alloc(), LARGEST)?.seal();
+    let long = sealed.term_type(long_type())?;
+    let option = sealed.term_type(option_of(long))?;
     let first = FieldType {
-        name: entity,
+        name: NameId(0),
         ty: option,
     };
     let second = FieldType {
-        name: tag,
+        name: NameId(1),
         ty: long,
     };
+    let fields = [first, second];
+    check_eq(record(&mut sealed, &fields), Ok(TypeId(3)))?;
+    check_eq(record(&mut sealed, &fields), Ok(TypeId(3)))?;
+    check_eq(record(&mut sealed, &fields[0..1]), Ok(TypeId(4)))?;
+    check_eq(record(&mut sealed, &fields[0..0]), Ok(TypeId(5)))?;
     check_eq(
-        draft.term_type(TermType::Record(&[first, second])),
-        Ok(TypeId(3)),
-    )?;
-    let mut sealed = draft.seal();
-    check_eq(
-        sealed.term_type(TermType::Record(&[first, second])),
-        Ok(TypeId(3)),
-    )?;
-    check_eq(
-        sealed.term_type(TermType::Record(&[second, first])),
+        record(&mut sealed, &[second, first]),
         Err(CompileError::BadInput),
     )?;
     check_eq(
-        sealed.term_type(TermType::Record(&[first, first])),
-        Err(CompileError::BadInput),
-    )?;
-    check_eq(
-        sealed.term_type(TermType::Set(option)),
-        Err(CompileError::BadInput),
-    )?;
-    check_eq(
-        sealed.term_type(TermType::Option(option)),
-        Err(CompileError::BadInput),
-    )?;
-    check_eq(
-        sealed.term_type(TermType::Set(TypeId(4))),
-        Err(CompileError::BadInput),
-    )?;
-    check_eq(
-        sealed.term_type(TermType::Entity(NameId(2))),
+        record(&mut sealed, &[first, first]),
         Err(CompileError::BadInput),
     )
+}
+
+#[test]
+fn parts_that_may_not_stand(rt: LibcRuntime) -> Result<(), Fail> {
+    let mut draft = Draft::open(rt.alloc(), LARGEST)?;
+    let option = draft.term_type(option_of(TypeId(0)))?;
+    check_eq(draft.term_type(set_of(option)), Err(CompileError::BadInput))?;
+    check_eq(
+        draft.term_type(option_of(option)),
+        Err(CompileError::BadInput),
+    )?;
+    check_eq(
+        draft.term_type(set_of(TypeId(2))),
+        Err(CompileError::BadInput),
+    )?;
+    check_eq(
+        draft.term_type(entity(NameId(2))),
+        Err(CompileError::BadInput),
+    )?;
+    check_eq(draft.term_type(entity(NameId(1))), Ok(TypeId(2)))
 }
 
 #[test]
