@@ -23,7 +23,7 @@ use Rattle.tables.specs.Shapes.{ascendingAfter, fits}
 use Rattle.tables.specs.Calls.{nameCall, typeCall}
 use Rattle.tables.proofs.Room.{name-room, room-name, type-room, room-type}
 use Rattle.laws.specs.Sound.{PartsBelow, Sound}
-use Rattle.laws.specs.Lawful.{recap, Later, Lawful, Names, Types}
+use Rattle.laws.specs.Lawful.{recap, Later, Lawful, NameStands, TypeStands}
 use Rattle.laws.proofs.Once.{each-push, at-old, at-new, once-push, first-some, first-none}
 use Rattle.laws.proofs.SameTypes.{types-same, same-types}
 use Rattle.laws.proofs.Growth.{parts-more, fits-parts}
@@ -36,7 +36,7 @@ module _ (s : List ℕ) (w : Contents) where
       let (a, b, c) = first-some (nameKind .held s w) 0 (length (w .names)) i e in
       (omega arith, sameBytes-decides (nameAt w i) s .0 c)
 
-  name-absent : find nameKind s w ≡ None → (i : ℕ) → i < length (w .names) → nameAt w i ≡ s → ⊥
+  pub name-absent : find nameKind s w ≡ None → (i : ℕ) → i < length (w .names) → nameAt w i ≡ s → ⊥
   unfolding find
   name-absent e i h p =
       true≢false (sym (sameBytes-decides (nameAt w i) s .1 p) ∙ first-none (nameKind .held s w) 0 (length (w .names)) e i (omega arith) (omega arith))
@@ -56,7 +56,7 @@ module _ (t : Type′) (w : Contents) where
       let (a, b, c) = first-some (typeKind .held t w) 0 (length (w .types)) i e in
       (omega arith, types-same (typeAt w i) t c)
 
-  type-absent : find typeKind t w ≡ None → (i : ℕ) → i < length (w .types) → typeAt w i ≡ t → ⊥
+  pub type-absent : find typeKind t w ≡ None → (i : ℕ) → i < length (w .types) → typeAt w i ≡ t → ⊥
   unfolding find
   type-absent e i h p =
       true≢false (sym (same-types (typeAt w i) t p) ∙ first-none (typeKind .held t w) 0 (length (w .types)) e i (omega arith) (omega arith))
@@ -71,7 +71,7 @@ module _ (t : Type′) (w : Contents) where
             (subst (PartsBelow (length (w .names)) (length (w .types))) (sym (at-new BoolT (w .types) t)) (fits-parts w t f));
       }
 
-name-entry : (s : List ℕ) → Entry (λ _. leb (length s) 255) nameKind s (λ n. record { 0 = n }) (λ (n : NameId). Names s (n .0))
+name-entry : (s : List ℕ) → Entry (λ _. leb (length s) 255) nameKind s (λ n. record { 0 = n }) (λ (n : NameId). NameStands s (n .0))
 unfolding find
 name-entry s =
     record {
@@ -94,7 +94,7 @@ name-entry s =
       new = λ w. (omega (arith, length-push (w .names) s), at-new [] (w .names) s);
     }
 
-type-entry : (t : Type′) → Entry (λ w. fits w t) typeKind t (λ n. record { 0 = n }) (λ (n : TypeId). Types t (n .0))
+type-entry : (t : Type′) → Entry (λ w. fits w t) typeKind t (λ n. record { 0 = n }) (λ (n : TypeId). TypeStands t (n .0))
 unfolding find ascendingAfter
 type-entry t =
     record {
@@ -117,11 +117,11 @@ type-entry t =
       new = λ w. (omega (arith, length-push (w .types) t), at-new BoolT (w .types) t);
     }
 
-pub name-lawful : (s : List ℕ) → Lawful (nameCall s) (λ n. Names s (n .0))
+pub name-lawful : (s : List ℕ) → Lawful (nameCall s) (λ n. NameStands s (n .0))
 unfolding nameCall enterName
 name-lawful s = entry-lawful (λ _. leb (length s) 255) nameKind s (λ n. record { 0 = n }) (name-entry s)
 
-pub type-lawful : (t : Type′) → Lawful (typeCall t) (λ n. Types t (n .0))
+pub type-lawful : (t : Type′) → Lawful (typeCall t) (λ n. TypeStands t (n .0))
 unfolding typeCall enterType
 type-lawful t = entry-lawful (λ w. fits w t) typeKind t (λ n. record { 0 = n }) (type-entry t)
 

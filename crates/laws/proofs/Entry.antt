@@ -1,7 +1,7 @@
 -- A call that tests a structure and enters it, for every kind of structure.
 use mathlib.Core.Path.{_≡_, refl, sym, ap, ap₂, subst, _∙_}
 use mathlib.Core.List.{List, [], _++_}
-use mathlib.Core.Bool.{Bool, true, false, cond, true≢false}
+use mathlib.Core.Bool.{Bool, true, false, cond, true≢false, false≢true}
 use Prim.Native.Nat.{ℕ}
 use Rattle.std.specs.declared.option.Option.{Option}
 use Rattle.std.specs.declared.option.Option.the-variants.{Some, None}
@@ -10,7 +10,7 @@ use Rattle.std.specs.declared.result.Result.the-variants.{Ok, Err}
 use Rattle.std.proofs.shelf.Lists.{append-nil}
 use Rattle.tables.specs.declared.capacities.Capacities.{Capacities}
 use Rattle.tables.specs.declared.result.CompileError.{CompileError}
-use Rattle.tables.specs.declared.result.CompileError.the-variants.{Full, BadInput}
+use Rattle.tables.specs.declared.result.CompileError.the-variants.{NoSuchEntityType, NoSuchAttribute, TypeError, UnsupportedFeature, Full, BadInput, TooDeep, NotCovered, NotBoolean, BadRow, NoMemory}
 use Rattle.tables.specs.declared.result.Table.{Table}
 use Rattle.tables.specs.Ranges.{Smaller}
 use Rattle.tables.specs.Contents.{Contents}
@@ -97,6 +97,33 @@ module _ {A B : Type 0} (test : Contents → Bool) (k : Kind A) (a : A) (f : ℕ
       tested : (b : Bool) → test w ≡ b → Way w
       tested false t = bad t
       tested true t = searched t (find k a w) refl
+
+  -- `Full` comes exactly in the third of them.
+  pub is-only-full : (w : Contents) (x : Table) → checked test k a f w .1 ≡ Err (Full x) → (test w ≡ true) × (find k a w ≡ None) × (k .lacking a w ≡ Some x)
+  is-only-full w x p = go (way w)
+    where
+      tableIn : Result B CompileError → Table
+      tableIn (Ok b) = x
+      tableIn (Err (NoSuchEntityType n)) = x
+      tableIn (Err (NoSuchAttribute n)) = x
+      tableIn (Err TypeError) = x
+      tableIn (Err UnsupportedFeature) = x
+      tableIn (Err (Full y)) = y
+      tableIn (Err BadInput) = x
+      tableIn (Err TooDeep) = x
+      tableIn (Err NotCovered) = x
+      tableIn (Err NotBoolean) = x
+      tableIn (Err BadRow) = x
+      tableIn (Err NoMemory) = x
+
+      go : Way w → (test w ≡ true) × (find k a w ≡ None) × (k .lacking a w ≡ Some x)
+      go (bad t) = absurd (false≢true (ap isFull (sym (ap (λ o. o .1) (is-bad w t)) ∙ p)))
+      go (found i t s) = absurd (false≢true (ap isFull (sym (ap (λ o. o .1) (is-found w i t s)) ∙ p)))
+      go (full y t s l) = (t, s, l ∙ ap Some (ap tableIn (sym (ap (λ o. o .1) (is-full w y t s l)) ∙ p)))
+      go (new t s l) = absurd (false≢true (ap isFull (sym (ap (λ o. o .1) (is-new w t s l)) ∙ p)))
+
+  pub is-always-full : (w : Contents) (x : Table) → test w ≡ true → find k a w ≡ None → k .lacking a w ≡ Some x → checked test k a f w .1 ≡ Err (Full x)
+  is-always-full w x t e l = ap (λ o. o .1) (is-full w x t e l)
 
   module _ {Q : B → Contents → Type 0} (law : Entry test k a f Q) where
     refuses : (w : Contents) (e : CompileError) → checked test k a f w .1 ≡ Err e → checked test k a f w .0 ≡ w

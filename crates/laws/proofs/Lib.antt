@@ -4,3 +4,4 @@ pub mod Entry
 pub mod Growth
 pub mod Entries
 pub mod Inverse
+pub mod Fullness

@@ -2,19 +2,23 @@
 use mathlib.Core.Path.{_≡_}
 use mathlib.Core.List.{List, _++_}
 use mathlib.Core.Bool.{Bool, true, false}
-use Prim.Native.Nat.{ℕ, _<_}
+use mathlib.Core.Logic.{_⊎_}
+use Prim.Native.Nat.{ℕ, _-_, _<_, _≤_}
 use lib.ListN.{length}
 use Rattle.std.specs.declared.result.Result.{Result}
 use Rattle.std.specs.declared.result.Result.the-variants.{Ok, Err}
 use Rattle.tables.specs.declared.capacities.Capacities.{Capacities}
 use Rattle.tables.specs.declared.result.CompileError.{CompileError}
 use Rattle.tables.specs.declared.result.CompileError.the-variants.{NoSuchEntityType, NoSuchAttribute, TypeError, UnsupportedFeature, Full, BadInput, TooDeep, NotCovered, NotBoolean, BadRow, NoMemory}
+use Rattle.tables.specs.declared.result.Table.{Table}
+use Rattle.tables.specs.declared.result.Table.the-variants.{Terms, Types, Names, Lists, Rows}
 use Rattle.tables.specs.declared.terms.Term.{Term}
-use Rattle.tables.specs.Types.{Type′}
+use Rattle.tables.specs.Types.{Type′, fieldsOf}
 use Rattle.tables.specs.Ranges.{Smaller}
 use Rattle.tables.specs.Contents.{Contents, nameAt, typeAt, opening}
 use Rattle.tables.specs.Kinds.{Step}
 use Rattle.tables.specs.Calls.{nameCall, typeCall}
+use Rattle.tables.specs.Shapes.{fits}
 use Rattle.laws.specs.Sound.{Sound}
 
 abbrev pub isFull : {A : Type 0} → Result A CompileError → Bool
@@ -56,14 +60,46 @@ pub record Lawful {A : Type 0} (m : Step A) (Q : A → Contents → Type 0) : Ty
   pub gives : (w : Contents) (a : A) → m w .1 ≡ Ok a → Q a (m w .0)
 
 -- The number of a name, of a type, that is held.
-abbrev pub Names : List ℕ → ℕ → Contents → Type 0
-Names s n w = (n < length (w .names)) × (nameAt w n ≡ s)
+abbrev pub NameStands : List ℕ → ℕ → Contents → Type 0
+NameStands s n w = (n < length (w .names)) × (nameAt w n ≡ s)
 
-abbrev pub Types : Type′ → ℕ → Contents → Type 0
-Types t n w = (n < length (w .types)) × (typeAt w n ≡ t)
+abbrev pub TypeStands : Type′ → ℕ → Contents → Type 0
+TypeStands t n w = (n < length (w .types)) × (typeAt w n ≡ t)
 
 abbrev pub Calls-are-lawful : Type 0
 Calls-are-lawful =
-    ((s : List ℕ) → Lawful (nameCall s) (λ n. Names s (n .0)))
-    × ((t : Type′) → Lawful (typeCall t) (λ n. Types t (n .0)))
+    ((s : List ℕ) → Lawful (nameCall s) (λ n. NameStands s (n .0)))
+    × ((t : Type′) → Lawful (typeCall t) (λ n. TypeStands t (n .0)))
     × ((k : Capacities) → Sound (opening k))
+
+-- The name, the type, is not held.
+abbrev pub NameAbsent : List ℕ → Contents → Type 0
+NameAbsent s w = (i : ℕ) → i < length (w .names) → nameAt w i ≡ s → ⊥
+
+abbrev pub TypeAbsent : Type′ → Contents → Type 0
+TypeAbsent t w = (i : ℕ) → i < length (w .types) → typeAt w i ≡ t → ⊥
+
+-- The table is the one with the lowest number that has too few free cells for the name, for the type.
+abbrev pub NameLacks : List ℕ → Contents → Table → Type 0
+NameLacks s w Terms = ⊥
+NameLacks s w Types = ⊥
+NameLacks s w Names = (w .capacities .names ≤ length (w .names)) ⊎ (w .capacities .bytes - w .bytes < length s)
+NameLacks s w Lists = ⊥
+NameLacks s w Rows = ⊥
+
+abbrev pub TypeLacks : Type′ → Contents → Table → Type 0
+TypeLacks t w Terms = ⊥
+TypeLacks t w Types = w .capacities .types ≤ length (w .types)
+TypeLacks t w Names = ⊥
+TypeLacks t w Lists = (length (w .types) < w .capacities .types) × (w .capacities .lists - w .lists < length (fieldsOf t))
+TypeLacks t w Rows = ⊥
+
+-- `Full` comes exactly when something that may be entered and is not held lacks cells in that table.
+pub record FullExactly {A : Type 0} (m : Step A) (Wanted : Contents → Type 0) (Lacks : Contents → Table → Type 0) : Type 0 where
+  pub only : (w : Contents) (x : Table) → m w .1 ≡ Err (Full x) → Wanted w × Lacks w x
+  pub always : (w : Contents) (x : Table) → Wanted w → Lacks w x → m w .1 ≡ Err (Full x)
+
+abbrev pub Full-comes-exactly-when-cells-are-missing : Type 0
+Full-comes-exactly-when-cells-are-missing =
+    ((s : List ℕ) → FullExactly (nameCall s) (λ w. (length s ≤ 255) × NameAbsent s w) (NameLacks s))
+    × ((t : Type′) → FullExactly (typeCall t) (λ w. (fits w t ≡ true) × TypeAbsent t w) (TypeLacks t))

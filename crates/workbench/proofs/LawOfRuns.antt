@@ -8,13 +8,14 @@ use Rattle.tables.specs.declared.capacities.Capacities.{Capacities}
 use Rattle.tables.specs.Ranges.{Smaller}
 use Rattle.tables.specs.Contents.{Contents, opening}
 use Rattle.laws.specs.Sound.{Sound, HeldOnce}
-use Rattle.laws.specs.Lawful.{recap, Later, Lawful, Names, Types}
+use Rattle.laws.specs.Lawful.{recap, Later, Lawful, NameStands, TypeStands}
 use Rattle.laws.proofs.Entries.{name-lawful, type-lawful, opening-sound}
+use Rattle.laws.proofs.Fullness.{full-exactly}
 use Rattle.laws.proofs.Inverse.{hold-once}
 use Rattle.workbench.specs.declared.calls.Reply.{Reply}
 use Rattle.workbench.specs.declared.calls.Reply.the-variants.{Name, «Type» as TypeR}
 use Rattle.workbench.specs.Runs.{OnDraft, draftName, draftType, OnSealed, sealedName, sealedType, Answer, draftCall, sealedCall, calls, runs}
-use Rattle.workbench.specs.Law.{Alike, PointsAt, SealedPointsAt, Refused-calls-change-nothing, Larger-workbenches-answer-alike, Each-structure-has-one-number, Numbers-last}
+use Rattle.workbench.specs.Law.{Alike, PointsAt, SealedPointsAt, Refused-calls-change-nothing, Larger-workbenches-answer-alike, Each-structure-has-one-number, Numbers-last, Law-of-runs}
 use Rattle.workbench.proofs.Lawful.{Later-trans, names-later, types-later, replying-lawful, calls-append, calls-later, calls-sound, calls-alike}
 
 -- A lawful step whose answers are what another statement says of them.
@@ -50,21 +51,21 @@ drafts ds w = calls draftCall ds w .0
 abbrev seals : List OnSealed → Contents → Contents
 seals ss w = calls sealedCall ss w .0
 
-pub refused-calls-change-nothing : Refused-calls-change-nothing
+refused-calls-change-nothing : Refused-calls-change-nothing
 unfolding runs calls
 refused-calls-change-nothing = (
   (λ k ds d e p. calls-append draftCall PointsAt draft-lawful ds (d ∷ []) (opening k) ∙ draft-lawful d .refused (drafts ds (opening k)) e p),
   (λ k ds ss s e p. calls-append sealedCall SealedPointsAt sealed-lawful ss (s ∷ []) (drafts ds (opening k)) ∙ sealed-lawful s .refused (seals ss (drafts ds (opening k))) e p),
 )
 
-pub each-structure-has-one-number : Each-structure-has-one-number
+each-structure-has-one-number : Each-structure-has-one-number
 unfolding runs
 each-structure-has-one-number k ds ss =
     hold-once (seals ss (drafts ds (opening k)))
     (calls-sound sealedCall SealedPointsAt sealed-lawful ss (drafts ds (opening k))
     (calls-sound draftCall PointsAt draft-lawful ds (opening k) (opening-sound k)))
 
-pub larger-workbenches-answer-alike : Larger-workbenches-answer-alike
+larger-workbenches-answer-alike : Larger-workbenches-answer-alike
 unfolding runs opening Alike
 larger-workbenches-answer-alike k l s ds ss =
     let w = drafts ds (opening k) in
@@ -76,7 +77,7 @@ larger-workbenches-answer-alike k l s ds ss =
     (calls-alike sealedCall SealedPointsAt sealed-lawful ss w l
     (subst (λ c. Smaller c l) (sym (calls-later draftCall PointsAt draft-lawful ds (opening k) .capacities)) s) [] [] (λ _. refl)))))
 
-pub numbers-last : Numbers-last
+numbers-last : Numbers-last
 unfolding runs calls
 numbers-last = (
   (λ k ds d r es ss p.
@@ -93,3 +94,13 @@ numbers-last = (
       subst (λ u. SealedPointsAt s r u) (sym e)
       (sealed-points-later s r (calls-later sealedCall SealedPointsAt sealed-lawful ts v) (sealed-lawful s .gives w r p))),
 )
+
+pub law-of-runs : Law-of-runs
+law-of-runs =
+    record {
+      refused-calls-change-nothing = refused-calls-change-nothing;
+      larger-workbenches-answer-alike = larger-workbenches-answer-alike;
+      each-structure-has-one-number = each-structure-has-one-number;
+      full-comes-exactly-when-cells-are-missing = full-exactly;
+      numbers-last = numbers-last;
+    }

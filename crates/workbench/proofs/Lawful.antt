@@ -18,7 +18,7 @@ use Rattle.tables.specs.Ranges.{Smaller}
 use Rattle.tables.specs.Contents.{Contents, nameAt, typeAt, opening}
 use Rattle.tables.specs.Kinds.{Step, answering}
 use Rattle.laws.specs.Sound.{Sound}
-use Rattle.laws.specs.Lawful.{isFull, recap, Later, Lawful, Names, Types}
+use Rattle.laws.specs.Lawful.{isFull, recap, Later, Lawful, NameStands, TypeStands}
 use Rattle.laws.proofs.Entry.{Later-refl}
 use Rattle.workbench.specs.declared.calls.Reply.{Reply}
 use Rattle.workbench.specs.Runs.{Answer, replying, calls}
@@ -41,10 +41,10 @@ at-later : {X : Type 0} (d : X) (xs : List X) {ys : List X} (more : List X) → 
 at-later d xs more e n {x} (h, p) =
     subst (λ l. (n < length l) × (getD l n d ≡ x)) (sym e) (omega (arith, length-append xs more), getD-append-left xs more d n h ∙ p)
 
-pub names-later : {w v : Contents} → Later w v → (s : List ℕ) (n : ℕ) → Names s n w → Names s n v
+pub names-later : {w v : Contents} → Later w v → (s : List ℕ) (n : ℕ) → NameStands s n w → NameStands s n v
 names-later {w} l s n h = at-later [] (w .names) (l .more-names) (l .names) n h
 
-pub types-later : {w v : Contents} → Later w v → (t : Type′) (n : ℕ) → Types t n w → Types t n v
+pub types-later : {w v : Contents} → Later w v → (t : Type′) (n : ℕ) → TypeStands t n w → TypeStands t n v
 types-later {w} l t n h = at-later BoolT (w .types) (l .more-types) (l .types) n h
 
 -- What is made of an answer.

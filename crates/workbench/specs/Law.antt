@@ -10,7 +10,7 @@ use Rattle.tables.specs.declared.result.CompileError.{CompileError}
 use Rattle.tables.specs.Ranges.{Smaller}
 use Rattle.tables.specs.Contents.{Contents}
 use Rattle.laws.specs.Sound.{HeldOnce}
-use Rattle.laws.specs.Lawful.{isFull, Names, Types}
+use Rattle.laws.specs.Lawful.{isFull, NameStands, TypeStands, Full-comes-exactly-when-cells-are-missing}
 use Rattle.workbench.specs.declared.calls.Reply.{Reply}
 use Rattle.workbench.specs.declared.calls.Reply.the-variants.{Name, «Type» as TypeR}
 use Rattle.workbench.specs.Runs.{OnDraft, draftName, draftType, OnSealed, sealedName, sealedType, Answer, draftCall, sealedCall, runs}
@@ -40,16 +40,16 @@ Each-structure-has-one-number = (k : Capacities) (ds : List OnDraft) (ss : List 
 
 -- The number that a call answered points at what the call was given.
 abbrev pub PointsAt : OnDraft → Reply → Contents → Type 0
-PointsAt (draftName s) (Name n) w = Names s (n .0) w
+PointsAt (draftName s) (Name n) w = NameStands s (n .0) w
 PointsAt (draftName s) (TypeR n) w = ⊥
 PointsAt (draftType t) (Name n) w = ⊥
-PointsAt (draftType t) (TypeR n) w = Types t (n .0) w
+PointsAt (draftType t) (TypeR n) w = TypeStands t (n .0) w
 
 abbrev pub SealedPointsAt : OnSealed → Reply → Contents → Type 0
-SealedPointsAt (sealedName s) (Name n) w = Names s (n .0) w
+SealedPointsAt (sealedName s) (Name n) w = NameStands s (n .0) w
 SealedPointsAt (sealedName s) (TypeR n) w = ⊥
 SealedPointsAt (sealedType t) (Name n) w = ⊥
-SealedPointsAt (sealedType t) (TypeR n) w = Types t (n .0) w
+SealedPointsAt (sealedType t) (TypeR n) w = TypeStands t (n .0) w
 
 -- Each number that a call answers points at what the call was given, and after all later calls too.
 abbrev pub Numbers-last : Type 0
@@ -58,3 +58,11 @@ Numbers-last =
     → draftCall d (runs k ds [] .0) .1 ≡ Ok r → PointsAt d r (runs k (ds ++ d ∷ es) ss .0))
     × ((k : Capacities) (ds : List OnDraft) (ss : List OnSealed) (s : OnSealed) (r : Reply) (ts : List OnSealed)
     → sealedCall s (runs k ds ss .0) .1 ≡ Ok r → SealedPointsAt s r (runs k ds (ss ++ s ∷ ts) .0))
+
+-- What holds of every run.
+pub record Law-of-runs : Type 0 where
+  pub refused-calls-change-nothing : Refused-calls-change-nothing
+  pub larger-workbenches-answer-alike : Larger-workbenches-answer-alike
+  pub each-structure-has-one-number : Each-structure-has-one-number
+  pub full-comes-exactly-when-cells-are-missing : Full-comes-exactly-when-cells-are-missing
+  pub numbers-last : Numbers-last

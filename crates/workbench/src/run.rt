@@ -6,7 +6,7 @@ ghost use Rattle.std.specs.Of.Vec.{vec-items, vec-len, vec-cap};
 ghost use Rattle.tables.specs.Contents.{contents};
 ghost use Rattle.workbench.specs.Runs.{draftCall, sealedCall, onDraft, onSealed, calls as called};
 ghost use Rattle.workbench.specs.Ran.{Ran};
-ghost use Rattle.workbench.specs.Law.{Refused-calls-change-nothing, Larger-workbenches-answer-alike, Each-structure-has-one-number, Numbers-last};
+ghost use Rattle.workbench.specs.Law.{Law-of-runs};
 use crate::calls::*;
 use crate::draft::*;
 use std::alloc::Global;
@@ -65,10 +65,7 @@ pub fn run(
     on_sealed: &[SealedCall],
 ) -> Result<RunResult, CompileError>
     ensures answers { λ r. ⌜ Ran capacities (map onDraft (now («on_draft» .entry))) (map onSealed (now («on_sealed» .entry))) r ⌝ }
-    ensures refused_calls_change_nothing { λ _. ⌜ Refused-calls-change-nothing ⌝ }
-    ensures larger_workbenches_answer_alike { λ _. ⌜ Larger-workbenches-answer-alike ⌝ }
-    ensures each_structure_has_one_number { λ _. ⌜ Each-structure-has-one-number ⌝ }
-    ensures numbers_last { λ _. ⌜ Numbers-last ⌝ }
+    ensures law { λ _. ⌜ Law-of-runs ⌝ }
 {
     let mut draft = Draft::open(heap, capacities)?;
     let mut answers = Vec::with_capacity(heap, on_draft.len() + on_sealed.len())?;
