@@ -1,0 +1,4 @@
+mod Blanks
+mod Digits
+mod Replies
+mod Spelling
