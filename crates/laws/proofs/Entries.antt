@@ -15,7 +15,7 @@ use Rattle.std.proofs.shelf.Lists.{append-nil, length-push}
 use Rattle.tables.specs.declared.capacities.Capacities.{Capacities}
 use Rattle.tables.specs.declared.ids.NameId.{NameId}
 use Rattle.tables.specs.declared.ids.TypeId.{TypeId}
-use Rattle.tables.specs.declared.types.TermType.the-variants.{Bool as BoolT}
+use Rattle.tables.specs.declared.term_type.TermType.the-variants.{Bool as BoolT}
 use Rattle.tables.specs.Types.{Type′, sameType}
 use Rattle.tables.specs.Contents.{Contents, nameAt, typeAt, opening}
 use Rattle.tables.specs.Kinds.{nameKind, typeKind, find, enterName, enterType}

@@ -8,8 +8,8 @@ use lib.Dec.{ltb}
 use lib.ListN.{length}
 use borrow.Author.Tests.{ltb-true}
 use Rattle.std.proofs.shelf.Tests.{and-parts}
-use Rattle.tables.specs.declared.types.FieldType.{FieldType}
-use Rattle.tables.specs.declared.types.TermType.the-variants.{Bool as BoolT, Long, String, Decimal, Datetime, Duration, Entity, Set, Option, Record}
+use Rattle.tables.specs.declared.term_type.FieldType.{FieldType}
+use Rattle.tables.specs.declared.term_type.TermType.the-variants.{Bool as BoolT, Long, String, Decimal, Datetime, Duration, Entity, Set, Option, Record}
 use Rattle.tables.specs.Types.{Type′}
 use Rattle.tables.specs.Spans.{every}
 use Rattle.tables.specs.Contents.{Contents, typeAt}

@@ -5,8 +5,8 @@ use mathlib.Core.Bool.{Bool, true, false, cond, _&&_, false≢true}
 use Prim.Native.Nat.{ℕ}
 use lib.Dec.{eqb}
 use Rattle.std.proofs.shelf.Tests.{and-parts, and-from, eqb-true, eq-eqb}
-use Rattle.tables.specs.declared.types.FieldType.{FieldType}
-use Rattle.tables.specs.declared.types.TermType.the-variants.{Bool as BoolT, Long, String, Decimal, Datetime, Duration, Entity, Set, Option, Record}
+use Rattle.tables.specs.declared.term_type.FieldType.{FieldType}
+use Rattle.tables.specs.declared.term_type.TermType.the-variants.{Bool as BoolT, Long, String, Decimal, Datetime, Duration, Entity, Set, Option, Record}
 use Rattle.tables.specs.Types.{Type′, kindOf, partOf, fieldsOf, sameField, sameFields, sameType}
 
 fields-same : (fs gs : List FieldType) → sameFields fs gs ≡ true → fs ≡ gs

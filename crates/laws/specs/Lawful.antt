@@ -12,7 +12,7 @@ use Rattle.tables.specs.declared.result.CompileError.{CompileError}
 use Rattle.tables.specs.declared.result.CompileError.the-variants.{NoSuchEntityType, NoSuchAttribute, TypeError, UnsupportedFeature, Full, BadInput, TooDeep, NotCovered, NotBoolean, BadRow, NoMemory}
 use Rattle.tables.specs.declared.result.Table.{Table}
 use Rattle.tables.specs.declared.result.Table.the-variants.{Terms, Types, Names, Lists, Rows}
-use Rattle.tables.specs.declared.terms.Term.{Term}
+use Rattle.tables.specs.declared.term.Term.{Term}
 use Rattle.tables.specs.Types.{Type′, fieldsOf}
 use Rattle.tables.specs.Ranges.{Smaller}
 use Rattle.tables.specs.Contents.{Contents, nameAt, typeAt, opening}

@@ -3,8 +3,8 @@ use mathlib.Core.Path.{_≡_}
 use mathlib.Core.List.{List, [], _∷_}
 use Prim.Native.Nat.{ℕ, _<_}
 use lib.ListN.{length}
-use Rattle.tables.specs.declared.types.FieldType.{FieldType}
-use Rattle.tables.specs.declared.types.TermType.the-variants.{Bool as BoolT, Long, String, Decimal, Datetime, Duration, Entity, Set, Option, Record}
+use Rattle.tables.specs.declared.term_type.FieldType.{FieldType}
+use Rattle.tables.specs.declared.term_type.TermType.the-variants.{Bool as BoolT, Long, String, Decimal, Datetime, Duration, Entity, Set, Option, Record}
 use Rattle.tables.specs.Types.{Type′}
 use Rattle.tables.specs.Contents.{Contents, nameAt, typeAt}
 use Rattle.laws.specs.Trees.{treeOf}

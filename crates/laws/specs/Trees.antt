@@ -1,8 +1,8 @@
 -- The structure of a type: the tree that its cell and the cells of its parts make up.
 use mathlib.Core.List.{List, [], _∷_}
 use Prim.Native.Nat.{ℕ, zero, suc}
-use Rattle.tables.specs.declared.types.FieldType.{FieldType}
-use Rattle.tables.specs.declared.types.TermType.the-variants.{Bool as BoolT, Long, String, Decimal, Datetime, Duration, Entity, Set, Option, Record}
+use Rattle.tables.specs.declared.term_type.FieldType.{FieldType}
+use Rattle.tables.specs.declared.term_type.TermType.the-variants.{Bool as BoolT, Long, String, Decimal, Datetime, Duration, Entity, Set, Option, Record}
 use Rattle.tables.specs.Types.{Type′}
 use Rattle.tables.specs.Contents.{Contents, nameAt, typeAt}
 

@@ -7,7 +7,7 @@ use std::alloc::Global;
 use tables::ids::*;
 use tables::open::*;
 use tables::result::*;
-use tables::types::*;
+use tables::term_type::*;
 
 // Types without fields, in whichever way fields are given.
 fn entity<F>(name: NameId) -> TermType<F> {

@@ -11,10 +11,6 @@ mod printer;
 mod reader;
 mod request;
 pub mod session;
-#[cfg(test)]
-mod session_tests;
 mod state;
 mod steps;
-#[cfg(test)]
-mod tests;
 mod utf8;

@@ -1,4 +1,4 @@
-// Decimal numbers in their one canonical spelling: no sign but a `-`, no leading zero, no -0.
+// Decimal numbers in their one canonical spelling: no sign, no leading zero.
 ghost use mathlib.Core.Path.{_≡_};
 ghost use Prim.Native.Nat.{_-_};
 ghost use Rattle.script.specs.Decimal.{value};
@@ -32,17 +32,4 @@ pub fn parse_unsigned(bytes: &[u8]) -> Option<u64>
         [b'0', _, ..] => None,
         digits => decimal(digits),
     }
-}
-
-pub fn parse_signed(bytes: &[u8]) -> Option<i64> {
-    match bytes {
-        [b'-', digits @ ..] => negated(parse_unsigned(digits)?),
-        digits => i64::try_from(parse_unsigned(digits)?).ok(),
-    }
-}
-
-// `-value`, where it is below 0 and fits. It goes by -1, as the lowest number has no positive one.
-fn negated(value: u64) -> Option<i64> {
-    let past_one = i64::try_from(value.checked_sub(1)?).ok()?;
-    (-1i64).checked_sub(past_one)
 }

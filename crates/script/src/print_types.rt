@@ -3,7 +3,7 @@ use crate::printer::*;
 use std::alloc::AllocError;
 use tables::ids::*;
 use tables::storage::*;
-use tables::types::*;
+use tables::term_type::*;
 
 pub fn push_type(out: &mut Output, tables: &Tables, id: TypeId) -> Result<(), AllocError> {
     match tables.term_type(id) {

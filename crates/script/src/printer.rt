@@ -39,12 +39,6 @@ impl Output {
         self.bytes.as_slice()
     }
 
-    pub fn clear(&mut self)
-        ensures { λ _. ⌜ printed (now (self .exit)) ≡ [] ⌝ }
-    {
-        self.bytes.clear();
-    }
-
     pub fn push_bytes(&mut self, more: &[u8]) -> Result<(), AllocError>
         ensures { λ r. ⌜ Cases r (λ _. printed (now (self .exit)) ≡ printed (now (self .entry)) ++ now (more .entry)) (λ _. Unit {0}) ⌝ }
     {
@@ -58,11 +52,6 @@ impl Output {
     }
 
     pub fn push_number(&mut self, number: u64) -> Result<(), AllocError> {
-        let digits = format!(self.bytes.allocator(), "{number}")?;
-        self.push_bytes(digits.as_bytes())
-    }
-
-    pub fn push_signed(&mut self, number: i64) -> Result<(), AllocError> {
         let digits = format!(self.bytes.allocator(), "{number}")?;
         self.push_bytes(digits.as_bytes())
     }

@@ -32,14 +32,14 @@ const LARGEST: Capacities = Capacities {
 };
 
 #[derive(Drop)]
-pub struct Session {
+struct Session {
     heap: Global,
     state: State,
 }
 
 impl Session {
     // Starts with a draft of the largest capacities.
-    pub fn new(heap: Global) -> Result<Session, AllocError>
+    fn new(heap: Global) -> Result<Session, AllocError>
         ensures { λ r. ⌜ made r Starts ⌝ }
     {
         match Draft::open(heap, LARGEST) {
@@ -139,12 +139,7 @@ impl Session {
 
     // Appends the answer to the line of this number, with the end of its line; nothing for a blank
     // line and for a comment. Without memory for the answer nothing is appended.
-    pub fn answer(
-        &mut self,
-        number: usize,
-        line: &[u8],
-        out: &mut Vec<u8>,
-    ) -> Result<(), AllocError>
+    fn answer(&mut self, number: usize, line: &[u8], out: &mut Vec<u8>) -> Result<(), AllocError>
         ensures appended { λ r. ⌜ Answered (skipped (now (line .entry))) r (vec-items (now (out .entry))) (vec-items (now (out .exit))) ⌝ }
         ensures kept { λ _. ⌜ (skipped (now (line .entry)) ≡ true → now (self .exit) ≡ now (self .entry)) ⌝ }
     {

@@ -12,7 +12,7 @@ use std::mem;
 use tables::ids::*;
 use tables::result::*;
 use tables::storage::*;
-use tables::types::*;
+use tables::term_type::*;
 use workbench::draft::*;
 
 #[derive(Drop)]

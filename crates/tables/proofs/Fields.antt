@@ -7,7 +7,7 @@ use native.Mathlib.Omega.{arith}
 use lib.Dec.{eqb}
 use lib.ListN.{length, getD, drop}
 use Rattle.std.proofs.shelf.Lists.{drop-more, drop-all}
-use Rattle.tables.specs.declared.types.FieldType.{FieldType}
+use Rattle.tables.specs.declared.term_type.FieldType.{FieldType}
 use Rattle.tables.specs.Types.{sameField, sameFields}
 
 -- What is read past the end.

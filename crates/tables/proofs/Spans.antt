@@ -10,9 +10,9 @@ use lib.ListN.{length, take, drop, getD, length-drop, length-append}
 use borrow.Author.Tests.{leb-true, le-leb}
 use Rattle.std.proofs.shelf.Tests.{and-parts, and-from}
 use Rattle.std.proofs.shelf.Lists.{take-all, drop-all, take-append-le, drop-append-le, drop-at, map-push}
-use Rattle.tables.specs.declared.types.Span.{Span}
-use Rattle.tables.specs.declared.types.TermType.{TermType}
-use Rattle.tables.specs.declared.types.TermType.the-variants.{Bool as BoolT, Long, String, Decimal, Datetime, Duration, Entity, Set, Option, Record}
+use Rattle.tables.specs.declared.span.Span.{Span}
+use Rattle.tables.specs.declared.term_type.TermType.{TermType}
+use Rattle.tables.specs.declared.term_type.TermType.the-variants.{Bool as BoolT, Long, String, Decimal, Datetime, Duration, Entity, Set, Option, Record}
 use Rattle.tables.specs.Spans.{part, withFields, within, recordWithin, every}
 use Rattle.tables.specs.Types.{fieldsOf}
 

@@ -7,7 +7,7 @@ use lib.Dec.{ltb}
 use lib.ListN.{length, getD, drop}
 use borrow.Author.Tests.{lt-ltb, le-ltb}
 use Rattle.std.proofs.shelf.Lists.{drop-more, drop-all}
-use Rattle.tables.specs.declared.types.FieldType.{FieldType}
+use Rattle.tables.specs.declared.term_type.FieldType.{FieldType}
 use Rattle.tables.specs.Contents.{Contents, nameAt}
 use Rattle.tables.specs.Names.{before}
 use Rattle.tables.specs.Shapes.{ascendingAfter}

@@ -6,9 +6,9 @@ use lib.ListN.{length, getD}
 use lib.Chars.{codes}
 use Rattle.std.specs.Of.Vec.{vec-items}
 use Rattle.tables.specs.declared.capacities.Capacities.{Capacities}
-use Rattle.tables.specs.declared.terms.Term.{Term}
-use Rattle.tables.specs.declared.terms.Term.the-variants.{Bool as Truth}
-use Rattle.tables.specs.declared.types.TermType.the-variants.{Bool as BoolT}
+use Rattle.tables.specs.declared.term.Term.{Term}
+use Rattle.tables.specs.declared.term.Term.the-variants.{Bool as Truth}
+use Rattle.tables.specs.declared.term_type.TermType.the-variants.{Bool as BoolT}
 use Rattle.tables.specs.declared.storage.Tables.{Tables}
 use Rattle.tables.specs.Spans.{part, withFields}
 use Rattle.tables.specs.Types.{Type′}

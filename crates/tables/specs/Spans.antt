@@ -4,9 +4,9 @@ use mathlib.Core.Bool.{Bool, true, _&&_}
 use Prim.Native.Nat.{ℕ, _+_}
 use lib.Dec.{leb}
 use lib.ListN.{take, drop}
-use Rattle.tables.specs.declared.types.Span.{Span}
-use Rattle.tables.specs.declared.types.TermType.{TermType}
-use Rattle.tables.specs.declared.types.TermType.the-variants.{Bool as BoolT, Long, String, Decimal, Datetime, Duration, Entity, Set, Option, Record}
+use Rattle.tables.specs.declared.span.Span.{Span}
+use Rattle.tables.specs.declared.term_type.TermType.{TermType}
+use Rattle.tables.specs.declared.term_type.TermType.the-variants.{Bool as BoolT, Long, String, Decimal, Datetime, Duration, Entity, Set, Option, Record}
 
 -- What a span names of a list.
 abbrev pub part : {X : Type 0} → List X → Span → List X

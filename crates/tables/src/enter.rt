@@ -3,13 +3,13 @@ ghost use denote.Ref.{now};
 ghost use Rattle.tables.specs.Spans.{withFields};
 ghost use Rattle.tables.specs.Contents.{contents};
 ghost use Rattle.tables.specs.Kinds.{Now, enterName, enterType};
+use crate::hold_names::*;
+use crate::hold_types::*;
 use crate::ids::*;
-use crate::names::*;
 use crate::result::*;
 use crate::storage::*;
 use crate::structure::*;
-use crate::term_types::*;
-use crate::types::*;
+use crate::term_type::*;
 
 impl Tables {
     // The number of a name, which is entered where it is not held yet.

@@ -6,7 +6,7 @@ ghost use Rattle.tables.specs.Shapes.{isName, isType, isOption, plain as isPla
 use crate::ids::*;
 use crate::order::before;
 use crate::storage::*;
-use crate::types::*;
+use crate::term_type::*;
 
 fn is_option(t: TermType<&[FieldType]>) -> bool
     ensures { λ r. ⌜ r ≡ isOption (withFields now (t .entry)) ⌝ }

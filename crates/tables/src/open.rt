@@ -8,8 +8,8 @@ ghost use Rattle.tables.specs.Opening.{Opened};
 use crate::capacities::*;
 use crate::result::*;
 use crate::storage::*;
-use crate::terms::*;
-use crate::types::*;
+use crate::term::*;
+use crate::term_type::*;
 use std::alloc::AllocError;
 use std::alloc::Global;
 

@@ -5,8 +5,9 @@ ghost use Rattle.tables.specs.Spans.{withFields, part as partOf};
 ghost use Rattle.tables.specs.Contents.{contents, nameAt, typeAt};
 use crate::ids::*;
 use crate::part::part;
+use crate::span::*;
 use crate::storage::*;
-use crate::types::*;
+use crate::term_type::*;
 
 // The type with its fields read from the list cells.
 fn read_type(cell: TermType<Span>, fields: &[FieldType]) -> TermType<&[FieldType]>

@@ -3,7 +3,7 @@ ghost use denote.Ref.{now};
 ghost use Rattle.tables.specs.Spans.{withFields};
 ghost use Rattle.tables.specs.Types.{kindOf, partOf, fieldsOf, sameField, sameFields, sameType};
 use crate::ids::*;
-use crate::types::*;
+use crate::term_type::*;
 
 fn kind_of(t: TermType<&[FieldType]>) -> u8
     ensures { λ r. ⌜ r ≡ kindOf (t .entry) ⌝ }

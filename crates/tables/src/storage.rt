@@ -5,8 +5,9 @@ ghost use lib.ListN.{length};
 ghost use Rattle.std.specs.Of.Vec.{vec-items, vec-len, vec-cap};
 ghost use Rattle.tables.specs.Spans.{every, within as spanWithin, recordWithin};
 use crate::capacities::*;
-use crate::terms::*;
-use crate::types::*;
+use crate::span::*;
+use crate::term::*;
+use crate::term_type::*;
 
 // The tables of a workbench. All memory is reserved when they are opened.
 #[derive(Drop)]

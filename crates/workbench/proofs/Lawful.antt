@@ -12,7 +12,7 @@ use Rattle.std.proofs.shelf.Lists.{append-nil, append-assoc, getD-append-left}
 use Rattle.tables.specs.declared.capacities.Capacities.{Capacities}
 use Rattle.tables.specs.declared.result.CompileError.{CompileError}
 use Rattle.tables.specs.declared.result.CompileError.the-variants.{NoSuchEntityType, NoSuchAttribute, TypeError, UnsupportedFeature, Full, BadInput, TooDeep, NotCovered, NotBoolean, BadRow, NoMemory}
-use Rattle.tables.specs.declared.types.TermType.the-variants.{Bool as BoolT}
+use Rattle.tables.specs.declared.term_type.TermType.the-variants.{Bool as BoolT}
 use Rattle.tables.specs.Types.{Type′}
 use Rattle.tables.specs.Ranges.{Smaller}
 use Rattle.tables.specs.Contents.{Contents, nameAt, typeAt, opening}

@@ -1,5 +1,5 @@
 use tables::ids::*;
-use tables::types::*;
+use tables::term_type::*;
 
 // A call on a draft.
 #[derive(Clone, Copy)]

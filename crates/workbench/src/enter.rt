@@ -6,7 +6,7 @@ ghost use Rattle.tables.specs.Calls.{nameCall, typeCall};
 use tables::ids::*;
 use tables::result::*;
 use tables::storage::*;
-use tables::types::*;
+use tables::term_type::*;
 
 // The most bytes that a name may have.
 const MAX_NAME: usize = 255;

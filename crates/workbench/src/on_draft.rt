@@ -14,7 +14,7 @@ use tables::capacities::*;
 use tables::ids::*;
 use tables::result::*;
 use tables::storage::*;
-use tables::types::*;
+use tables::term_type::*;
 
 impl Draft {
     // A new workbench.

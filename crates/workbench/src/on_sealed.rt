@@ -11,7 +11,7 @@ use crate::enter;
 use tables::ids::*;
 use tables::result::*;
 use tables::storage::*;
-use tables::types::*;
+use tables::term_type::*;
 
 impl Sealed {
     // Enters a name.

@@ -3,7 +3,7 @@ use std::test::*;
 use tables::capacities::*;
 use tables::ids::*;
 use tables::result::*;
-use tables::types::*;
+use tables::term_type::*;
 use workbench::calls::*;
 use workbench::draft::*;
 use workbench::run::run;

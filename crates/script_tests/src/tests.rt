@@ -1,4 +1,4 @@
-use crate::session::*;
+use script::session::run_script;
 use std::alloc::AllocError;
 use std::alloc::Global;
 use std::test::*;
@@ -185,24 +185,73 @@ fn names_have_at_most_255_bytes(rt: LibcRuntime) -> Result<(), Fail> {
     answers(heap, long_name(heap, 256)?.as_slice(), b"err BadInput\n")
 }
 
+#[test]
+fn lexical_rules(rt: LibcRuntime) -> Result<(), Fail> {
+    let script = b"(enter-name \"a
+(enter-name \"\\x2G\")
+(enter-name \"\\n\")
+(counts))
+((counts)
+(show-name 01)
+(show-name 18446744073709551615)
+(show-name 18446744073709551616)
+(enter-name \"a \\x22q\\x22 \\x5c ~\\x7f\\x00\\xc3\\xbf\")
+(show-name 2)
+\t(counts)\r
+ ; (counts)";
+    let expected = b"bad 1:15 a string is not closed
+bad 2:17 an escape without two digits of 0-9a-f
+bad 3:15 an escape other than \\x
+bad 4:9 a closing parenthesis too many
+bad 5:10 a parenthesis is not closed
+bad 6:12 no unsigned number of 64 bits
+err BadInput
+bad 8:12 no unsigned number of 64 bits
+ok 2
+ok \"a \\x22q\\x22 \\x5c ~\\x7f\\x00\\xc3\\xbf\"
+ok (terms 2) (types 1) (names 3) (bytes 22) (lists 0) (rows 0)
+";
+    answers(rt.alloc(), script, expected)
+}
+
+// A set of a set of .. long, whose parentheses nest so deep.
+fn nested(heap: Global, depth: usize) -> Result<Vec<u8>, AllocError> {
+    let mut line = Vec::from_slice(heap, b"(enter-type ")?;
+    for _ in 1..depth {
+        line.extend_from_slice(b"(set ")?;
+    }
+    line.extend_from_slice(b"long")?;
+    for _ in 0..depth {
+        line.push(b')')?;
+    }
+    Ok(line)
+}
+
+#[test]
+fn nesting_is_bounded(rt: LibcRuntime) -> Result<(), Fail> {
+    let heap = rt.alloc();
+    answers(heap, nested(heap, 500)?.as_slice(), b"ok 500\n")?;
+    answers(
+        heap,
+        nested(heap, 501)?.as_slice(),
+        b"bad 1:2508 nested too deep\n",
+    )
+}
+
 // The type that is shown for a number has that number.
 #[test]
 fn shown_types_are_read_again(rt: LibcRuntime) -> Result<(), Fail> {
     let heap = rt.alloc();
-    let mut session = Session::new(heap)?;
-    let mut out = Vec::new(heap);
     let line =
-        b"(enter-type (record (\"b\\x00\\x22\" (set (record (c decimal)))) (a (entity \"\"))))";
-    session.answer(1, line, &mut out)?;
-    check(out.as_slice() == b"ok 5\n")?;
-    out.clear();
-    session.answer(2, b"(show-type 5)", &mut out)?;
-    let shown = out.as_slice().get(3..).ok_or("not shown")?;
-    let mut again = Vec::from_slice(heap, b"(enter-type ")?;
-    again.extend_from_slice(shown)?;
+        b"(enter-type (record (\"b\\x00\\x22\" (set (record (c decimal)))) (a (entity \"\"))))\n";
+    let mut script = Vec::from_slice(heap, line)?;
+    script.extend_from_slice(b"(show-type 5)")?;
+    let shown = run_script(heap, script.as_slice())?;
+    let text = shown.as_slice().get(8..).ok_or("not shown")?;
+    let mut again = Vec::from_slice(heap, line)?;
+    again.extend_from_slice(b"(enter-type ")?;
+    again.extend_from_slice(text)?;
     again.pop();
     again.push(b')')?;
-    let mut number = Vec::new(heap);
-    session.answer(3, again.as_slice(), &mut number)?;
-    check(number.as_slice() == b"ok 5\n")
+    answers(heap, again.as_slice(), b"ok 5\nok 5\n")
 }

@@ -3,9 +3,15 @@ ghost use Rattle.tables.specs.Kinds.{through, nameKind};
 use crate::append::append;
 use crate::ids::*;
 use crate::result::*;
+use crate::span::*;
 use crate::storage::*;
 use crate::structure::*;
-use crate::types::*;
+
+// A name, to be looked for or entered.
+#[derive(Clone, Copy)]
+pub(crate) struct Name<'a> {
+    pub(crate) bytes: &'a [u8],
+}
 
 pub(crate) impl Structure for Name<'_> as NameStructure {
     ghost kind = { through (λ s. now (s .bytes)) nameKind };

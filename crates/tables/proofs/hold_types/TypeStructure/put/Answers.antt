@@ -8,7 +8,7 @@ use Rattle.tables.specs.Contents.{contents}
 use Rattle.tables.specs.Spans.{part, withFields}
 use Rattle.tables.proofs.Room.{type-room}
 use Rattle.tables.proofs.Spans.{types-put, types-within}
-use Rattle.tables.proofs.term_types.TypeStructure.put.Needs as need
+use Rattle.tables.proofs.hold_types.TypeStructure.put.Needs as need
 
 pub append-requires : need.append-requires
 append-requires c κs =

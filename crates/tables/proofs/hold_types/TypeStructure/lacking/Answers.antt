@@ -1,6 +1,6 @@
 use borrow.Author.Needs.{needs}
 use Rattle.std.proofs.shelf.Lists.{length-map}
-use Rattle.tables.proofs.term_types.TypeStructure.lacking.Needs as need
+use Rattle.tables.proofs.hold_types.TypeStructure.lacking.Needs as need
 
 pub returns-then-len-tables : need.returns-then-len-tables
 returns-then-len-tables c = search (needs, length-map)

@@ -6,9 +6,10 @@ use crate::append::append;
 use crate::ids::*;
 use crate::result::*;
 use crate::same::*;
+use crate::span::*;
 use crate::storage::*;
 use crate::structure::*;
-use crate::types::*;
+use crate::term_type::*;
 
 // The type with its fields at a span of list cells.
 fn stored(t: TermType<&[FieldType]>, span: Span) -> TermType<Span>

@@ -1,6 +1,6 @@
 use borrow.Author.Needs.{needs}
 use Rattle.std.proofs.shelf.Equals.{sameBytes-decides, matches-decides}
-use Rattle.tables.proofs.names.NameStructure.held.Needs as need
+use Rattle.tables.proofs.hold_names.NameStructure.held.Needs as need
 
 pub returns : need.returns
 returns c =

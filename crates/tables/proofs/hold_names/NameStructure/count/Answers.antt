@@ -1,6 +1,6 @@
 use borrow.Author.Needs.{needs}
 use Rattle.std.proofs.shelf.Lists.{length-map}
-use Rattle.tables.proofs.names.NameStructure.count.Needs as need
+use Rattle.tables.proofs.hold_names.NameStructure.count.Needs as need
 
 pub returns : need.returns
 returns c = search (needs, length-map)

@@ -7,13 +7,6 @@ pub struct FieldType {
     pub ty: TypeId,
 }
 
-// Where a list lies in the table that holds it.
-#[derive(Clone, Copy)]
-pub struct Span {
-    pub first: u16,
-    pub count: u16,
-}
-
 // A type; its parts are given by their numbers. `F` is how a record's fields are given: a slice of
 // them, or a span of the list cells that hold them.
 #[derive(Clone, Copy)]
@@ -29,10 +22,4 @@ pub enum TermType<F> {
     Set(TypeId),
     Option(TypeId),
     Record(F),
-}
-
-// A name, to be looked for or entered.
-#[derive(Clone, Copy)]
-pub struct Name<'a> {
-    pub bytes: &'a [u8],
 }

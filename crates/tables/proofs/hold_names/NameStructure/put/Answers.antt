@@ -9,7 +9,7 @@ use Rattle.tables.specs.Contents.{contents}
 use Rattle.tables.specs.Spans.{part, within, every}
 use Rattle.tables.proofs.Room.{name-room}
 use Rattle.tables.proofs.Spans.{names-put, names-within}
-use Rattle.tables.proofs.names.NameStructure.put.Needs as need
+use Rattle.tables.proofs.hold_names.NameStructure.put.Needs as need
 
 pub push-reserved-requires : need.push-reserved-requires
 push-reserved-requires c κs =

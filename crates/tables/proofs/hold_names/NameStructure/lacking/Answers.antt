@@ -1,6 +1,6 @@
 use borrow.Author.Needs.{needs}
 use Rattle.std.proofs.shelf.Lists.{length-map}
-use Rattle.tables.proofs.names.NameStructure.lacking.Needs as need
+use Rattle.tables.proofs.hold_names.NameStructure.lacking.Needs as need
 
 pub returns-then-self-free : need.returns-then-self-free
 returns-then-self-free c = search (needs, length-map)
