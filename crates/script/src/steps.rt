@@ -48,9 +48,9 @@ pub enum Step {
     // Of the type before.
     Set,
     Option,
-    // Enters a name of which a field will be.
+    // Enters the name of a field.
     FieldName(FormId),
-    // Of so many names of fields, and the types that came after each.
+    // Of so many fields: the last names, and the type that came after each.
     Record(usize),
 }
 
