@@ -5,6 +5,7 @@ ghost use Rattle.tables.specs.Types.{kindOf, partOf, fieldsOf, sameField, same
 use crate::ids::*;
 use crate::term_type::*;
 
+// A number for each kind, so that comparing two types needs no case for each pair of kinds.
 fn kind_of(t: TermType<&[FieldType]>) -> u8
     ensures { λ r. ⌜ r ≡ kindOf (t .entry) ⌝ }
 {

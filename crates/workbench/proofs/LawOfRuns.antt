@@ -1,6 +1,8 @@
 -- The law of runs.
 use mathlib.Core.Path.{_≡_, refl, sym, ap, subst, _∙_}
 use mathlib.Core.List.{List, [], _∷_, _++_}
+use mathlib.Core.Logic.{∥∥₁-elim}
+use native.Mathlib.Nat.{ℕ-set}
 use Prim.Native.Nat.{ℕ}
 use Rattle.std.specs.declared.result.Result.the-variants.{Ok, Err}
 use Rattle.std.proofs.shelf.Lists.{append-nil}
@@ -15,6 +17,7 @@ use Rattle.laws.proofs.Inverse.{hold-once}
 use Rattle.workbench.specs.declared.calls.Reply.{Reply}
 use Rattle.workbench.specs.declared.calls.Reply.the-variants.{Name, «Type» as TypeR}
 use Rattle.workbench.specs.Runs.{OnDraft, draftName, draftType, OnSealed, sealedName, sealedType, Answer, draftCall, sealedCall, calls, runs}
+use Rattle.workbench.specs.Reached.{ReachedDraft, ReachedSealed}
 use Rattle.workbench.specs.Law.{Alike, PointsAt, SealedPointsAt, Refused-calls-change-nothing, Larger-workbenches-answer-alike, Each-structure-has-one-number, Numbers-last, Law-of-runs}
 use Rattle.workbench.proofs.Lawful.{Later-trans, names-later, types-later, replying-lawful, calls-append, calls-later, calls-sound, calls-alike}
 
@@ -104,3 +107,18 @@ law-of-runs =
       full-comes-exactly-when-cells-are-missing = full-exactly;
       numbers-last = numbers-last;
     }
+
+-- That each structure has one number has at most one proof, so it can be told from some run.
+held-once-prop : (w : Contents) → IsProp (HeldOnce w)
+held-once-prop w x y =
+    λ i. record {
+      names = λ a b h g e. ℕ-set a b (x .names a b h g e) (y .names a b h g e) i;
+      types = λ a b h g e. ℕ-set a b (x .types a b h g e) (y .types a b h g e) i;
+    }
+
+-- The tables of every workbench in hand.
+pub sealed-once : {w : Contents} → ReachedSealed w → HeldOnce w
+sealed-once {w} r = ∥∥₁-elim r (held-once-prop w) (λ (k, ds, ss, e, q). subst HeldOnce (sym q) (each-structure-has-one-number k ds ss))
+
+pub draft-once : {w : Contents} → ReachedDraft w → HeldOnce w
+draft-once {w} r = ∥∥₁-elim r (held-once-prop w) (λ (k, ds, e, q). subst HeldOnce (sym q) (each-structure-has-one-number k ds []))

@@ -5,6 +5,7 @@ ghost use Rattle.tables.specs.Contents.{contents};
 ghost use Rattle.tables.specs.Opening.{Opened};
 ghost use Rattle.tables.specs.Kinds.{Now};
 ghost use Rattle.tables.specs.Calls.{nameCall, typeCall};
+ghost use Rattle.laws.specs.Sound.{HeldOnce};
 ghost use Rattle.workbench.specs.Runs.{draftCall, onDraft};
 use crate::calls::*;
 use crate::draft::*;
@@ -47,9 +48,10 @@ impl Draft {
         Sealed { tables }
     }
 
-    // What the workbench holds.
+    // What the workbench holds: each structure under one number.
     pub fn tables(&self) -> &Tables
-        ensures { λ r. ⌜ now r ≡ now (self .entry) .tables ⌝ }
+        ensures value { λ r. ⌜ now r ≡ now (self .entry) .tables ⌝ }
+        ensures once { λ r. ⌜ HeldOnce (contents (now r)) ⌝ }
     {
         &self.tables
     }
