@@ -21,6 +21,7 @@ use Rattle.tables.specs.Calls.{nameCall, typeCall}
 use Rattle.tables.specs.Shapes.{fits}
 use Rattle.laws.specs.Sound.{Sound}
 
+-- The answer is `Full`, whatever table it names.
 abbrev pub isFull : {A : Type 0} → Result A CompileError → Bool
 isFull (Ok a) = false
 isFull (Err (NoSuchEntityType n)) = false
@@ -59,27 +60,30 @@ pub record Lawful {A : Type 0} (m : Step A) (Q : A → Contents → Type 0) : Ty
   pub roomy : (w : Contents) (k : Capacities) → Smaller (w .capacities) k → isFull (m w .1) ≡ false → m (recap k w) ≡ (recap k (m w .0), m w .1)
   pub gives : (w : Contents) (a : A) → m w .1 ≡ Ok a → Q a (m w .0)
 
--- The number of a name, of a type, that is held.
+-- The name is held at the number.
 abbrev pub NameStands : List ℕ → ℕ → Contents → Type 0
 NameStands s n w = (n < length (w .names)) × (nameAt w n ≡ s)
 
+-- The same of a type.
 abbrev pub TypeStands : Type′ → ℕ → Contents → Type 0
 TypeStands t n w = (n < length (w .types)) × (typeAt w n ≡ t)
 
+-- The calls that enter a name and a type are lawful, and opening gives sound tables.
 abbrev pub Calls-are-lawful : Type 0
 Calls-are-lawful =
     ((s : List ℕ) → Lawful (nameCall s) (λ n. NameStands s (n .0)))
     × ((t : Type′) → Lawful (typeCall t) (λ n. TypeStands t (n .0)))
     × ((k : Capacities) → Sound (opening k))
 
--- The name, the type, is not held.
+-- The name is not held.
 abbrev pub NameAbsent : List ℕ → Contents → Type 0
 NameAbsent s w = (i : ℕ) → i < length (w .names) → nameAt w i ≡ s → ⊥
 
+-- The same of a type.
 abbrev pub TypeAbsent : Type′ → Contents → Type 0
 TypeAbsent t w = (i : ℕ) → i < length (w .types) → typeAt w i ≡ t → ⊥
 
--- The table is the one with the lowest number that has too few free cells for the name, for the type.
+-- The table is the one with the lowest number that has too few free cells for the name.
 abbrev pub NameLacks : List ℕ → Contents → Table → Type 0
 NameLacks s w Terms = ⊥
 NameLacks s w Types = ⊥
@@ -87,6 +91,7 @@ NameLacks s w Names = (w .capacities .names ≤ length (w .names)) ⊎ (w .capac
 NameLacks s w Lists = ⊥
 NameLacks s w Rows = ⊥
 
+-- The same of a type.
 abbrev pub TypeLacks : Type′ → Contents → Table → Type 0
 TypeLacks t w Terms = ⊥
 TypeLacks t w Types = w .capacities .types ≤ length (w .types)
@@ -99,6 +104,7 @@ pub record FullExactly {A : Type 0} (m : Step A) (Wanted : Contents → Type 0) 
   pub only : (w : Contents) (x : Table) → m w .1 ≡ Err (Full x) → Wanted w × Lacks w x
   pub always : (w : Contents) (x : Table) → Wanted w → Lacks w x → m w .1 ≡ Err (Full x)
 
+-- That is so of both calls.
 abbrev pub Full-comes-exactly-when-cells-are-missing : Type 0
 Full-comes-exactly-when-cells-are-missing =
     ((s : List ℕ) → FullExactly (nameCall s) (λ w. (length s ≤ 255) × NameAbsent s w) (NameLacks s))

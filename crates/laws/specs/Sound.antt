@@ -38,5 +38,6 @@ pub record HeldOnce (w : Contents) : Type 0 where
   pub names : (i j : ℕ) → i < length (w .names) → j < length (w .names) → nameAt w i ≡ nameAt w j → i ≡ j
   pub types : (i j : ℕ) → i < length (w .types) → j < length (w .types) → treeOf w i ≡ treeOf w j → i ≡ j
 
+-- Sound tables hold each structure, as a tree, under one number.
 abbrev pub Sound-tables-hold-once : Type 0
 Sound-tables-hold-once = (w : Contents) → Sound w → HeldOnce w

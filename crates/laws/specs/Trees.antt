@@ -42,5 +42,6 @@ unfoldable pub treeTo : Contents → ℕ → ℕ → Tree
 treeTo w zero n = bool
 treeTo w (suc d) n = grown w (treeTo w d) (typeAt w n)
 
+-- The whole tree at a number.
 abbrev pub treeOf : Contents → ℕ → Tree
 treeOf w n = treeTo w (suc n) n

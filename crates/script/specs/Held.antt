@@ -12,11 +12,13 @@ use Rattle.tables.specs.Kinds.{Step}
 use Rattle.script.specs.declared.state.State.{State}
 use Rattle.script.specs.declared.state.State.the-variants.{Draft, Sealed, Closed}
 
+-- The contents of the workbench, where there is one.
 abbrev pub held : State → Option Contents
 held (Draft d) = Some (contents (d .tables))
 held (Sealed s) = Some (contents (s .tables))
 held Closed = None
 
+-- Whether it is a draft.
 abbrev pub isDraft : State → Bool
 isDraft (Draft d) = true
 isDraft (Sealed s) = false

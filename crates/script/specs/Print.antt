@@ -5,6 +5,7 @@ use lib.Dec.{ltb, eqb}
 use Rattle.std.specs.Of.Vec.{vec-items}
 use Rattle.script.specs.declared.printer.Output.{Output}
 
+-- What was printed so far.
 abbrev pub printed : Output → List ℕ
 printed o = vec-items (o .bytes)
 
@@ -20,9 +21,11 @@ escaped b = 92 ∷ 120 ∷ hex-code (b / 16) ∷ hex-code (b % 16) ∷ []
 abbrev pub spelled : ℕ → List ℕ
 spelled b = cond (eqb b 34) (escaped b) (cond (eqb b 92) (escaped b) (cond (ltb b 32) (escaped b) (cond (ltb b 127) (b ∷ []) (escaped b))))
 
+-- Bytes as they are spelled between quotes.
 abbrev pub spelled-all : List ℕ → List ℕ
 spelled-all [] = []
 spelled-all (b ∷ bs) = spelled b ++ spelled-all bs
 
+-- Bytes as a string.
 abbrev pub quoted : List ℕ → List ℕ
 quoted bs = 34 ∷ (spelled-all bs ++ 34 ∷ [])

@@ -15,5 +15,6 @@ abbrev pub rest : ℕ → Option FormId → ℕ
 rest n None = 0
 rest n (Some id) = (n - id .0) + 1
 
+-- How many forms an iterator may still come to.
 abbrev pub ahead : Children → ℕ
 ahead c = rest (count (c .line .now)) (c .next)

@@ -23,6 +23,7 @@ pub record Contents : Type 0 where
   pub lists : ℕ
   pub capacities : Capacities
 
+-- What the tables of the code hold.
 abbrev pub contents : Tables → Contents
 contents t =
     record {
@@ -34,10 +35,11 @@ contents t =
       capacities = t .capacities;
     }
 
--- The name and the type of a number; past the end the empty name and Bool.
+-- The name of a number; the empty name past the end.
 abbrev pub nameAt : Contents → ℕ → List ℕ
 nameAt w n = getD (w .names) n []
 
+-- The type of a number; Bool past the end.
 abbrev pub typeAt : Contents → ℕ → Type′
 typeAt w n = getD (w .types) n BoolT
 

@@ -23,6 +23,7 @@ use Rattle.tables.specs.Contents.{Contents, nameAt, typeAt}
 abbrev pub Outcome : Type 0 → Type 0
 Outcome A = Contents × Result A CompileError
 
+-- A call, as what it makes of the tables.
 abbrev pub Step : Type 0 → Type 0
 Step A = Contents → Outcome A
 
@@ -50,10 +51,12 @@ firstFrom p n (suc k) = cond (p n) (Some n) (firstFrom p (n + 1) k)
 unfoldable pub find : {A : Type 0} → Kind A → A → Contents → Option ℕ
 find k a w = firstFrom (k .held a w) 0 (k .count w)
 
+-- Puts a structure behind, unless a table lacks cells for it.
 abbrev pub putUnless : {A : Type 0} → Kind A → A → Option Table → Step ℕ
 putUnless k a (Some t) w = (w, Err (Full t))
 putUnless k a None w = (k .put a w, Ok (k .count w))
 
+-- Gives the number at which a structure is held, or enters it.
 abbrev pub enterUnless : {A : Type 0} → Kind A → A → Option ℕ → Step ℕ
 enterUnless k a (Some n) w = (w, Ok n)
 enterUnless k a None w = putUnless k a (k .lacking a w) w
@@ -114,8 +117,10 @@ abbrev pub answering : {A B : Type 0} → (A → B) → Result A CompileError �
 answering f (Ok a) = Ok (f a)
 answering f (Err e) = Err e
 
+-- Enters a name.
 unfoldable pub enterName : List ℕ → Step NameId
 enterName s w = (enter nameKind s w .0, answering (λ n. record { 0 = n }) (enter nameKind s w .1))
 
+-- Enters a type.
 unfoldable pub enterType : Type′ → Step TypeId
 enterType t w = (enter typeKind t w .0, answering (λ n. record { 0 = n }) (enter typeKind t w .1))

@@ -5,6 +5,7 @@ use Rattle.tables.specs.declared.result.CompileError.the-variants.{NoSuchEntit
 use Rattle.tables.specs.declared.result.Table.{Table}
 use Rattle.tables.specs.declared.result.Table.the-variants.{Terms, Types, Names, Lists, Rows}
 
+-- The number of a table.
 abbrev pub tableNumber : Table → ℕ
 tableNumber Terms = 1
 tableNumber Types = 2
@@ -12,6 +13,7 @@ tableNumber Names = 3
 tableNumber Lists = 4
 tableNumber Rows = 5
 
+-- The number of a refusal.
 abbrev pub refusalNumber : CompileError → ℕ
 refusalNumber (NoSuchEntityType n) = 1
 refusalNumber (NoSuchAttribute n) = 2

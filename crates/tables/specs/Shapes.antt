@@ -14,13 +14,15 @@ use Rattle.tables.specs.Spans.{every}
 use Rattle.tables.specs.Types.{Type′}
 use Rattle.tables.specs.Contents.{Contents, nameAt, typeAt}
 
--- The number points at an entered name, at an entered type.
+-- The number points at an entered name.
 abbrev pub isName : Contents → NameId → Bool
 isName w n = ltb (n .0) (length (w .names))
 
+-- The number points at an entered type.
 abbrev pub isType : Contents → TypeId → Bool
 isType w t = ltb (t .0) (length (w .types))
 
+-- The type is an option.
 abbrev pub isOption : {F : Type 0} → TermType F → Bool
 isOption BoolT = false
 isOption Long = false
@@ -37,14 +39,16 @@ isOption (Record x) = false
 abbrev pub plain : Contents → TypeId → Bool
 plain w t = isType w t && not (isOption (typeAt w (t .0)))
 
+-- A field's name and type are entered. Its type may be an option.
 abbrev pub fieldFits : Contents → FieldType → Bool
 fieldFits w f = isName w (f .name) && isType w (f .ty)
 
--- Each field's name comes before the next one's, so no name comes twice.
+-- The field's name comes before that of the first of the others, and so on: no name comes twice.
 unfoldable pub ascendingAfter : Contents → FieldType → List FieldType → Bool
 ascendingAfter w f [] = true
 ascendingAfter w f (g ∷ gs) = before (nameAt w (f .name .0)) (nameAt w (g .name .0)) && ascendingAfter w g gs
 
+-- The fields are in the order of their names, each name once.
 abbrev pub ascending : Contents → List FieldType → Bool
 ascending w [] = true
 ascending w (f ∷ fs) = ascendingAfter w f fs

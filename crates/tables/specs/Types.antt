@@ -50,9 +50,11 @@ fieldsOf (Set t) = []
 fieldsOf (Option t) = []
 fieldsOf (Record x) = x
 
+-- Two fields have one name and one type.
 abbrev pub sameField : FieldType → FieldType → Bool
 sameField f g = eqb (f .name .0) (g .name .0) && eqb (f .ty .0) (g .ty .0)
 
+-- Two lists of fields are the same, field by field.
 unfoldable pub sameFields : List FieldType → List FieldType → Bool
 sameFields [] [] = true
 sameFields [] (g ∷ gs) = false

@@ -45,6 +45,7 @@ PointsAt (draftName s) (TypeR n) w = ⊥
 PointsAt (draftType t) (Name n) w = ⊥
 PointsAt (draftType t) (TypeR n) w = TypeStands t (n .0) w
 
+-- The same of a call on a sealed workbench.
 abbrev pub SealedPointsAt : OnSealed → Reply → Contents → Type 0
 SealedPointsAt (sealedName s) (Name n) w = NameStands s (n .0) w
 SealedPointsAt (sealedName s) (TypeR n) w = ⊥

@@ -18,15 +18,17 @@ use Rattle.workbench.specs.declared.calls.SealedCall.the-variants.{Name as SNa
 use Rattle.workbench.specs.declared.calls.Reply.{Reply}
 use Rattle.workbench.specs.declared.calls.Reply.the-variants.{Name, «Type» as TypeR}
 
--- A call on a draft, and one on a sealed workbench.
+-- A call on a draft.
 pub data OnDraft : Type 0 where
   draftName : List ℕ → OnDraft
   draftType : Type′ → OnDraft
 
+-- A call on a sealed workbench.
 pub data OnSealed : Type 0 where
   sealedName : List ℕ → OnSealed
   sealedType : Type′ → OnSealed
 
+-- What a call answers: a reply or a refusal.
 abbrev pub Answer : Type 0
 Answer = Result Reply CompileError
 
@@ -34,10 +36,12 @@ Answer = Result Reply CompileError
 abbrev pub replying : {A : Type 0} → (A → Reply) → Step A → Step Reply
 replying f m w = (m w .0, answering f (m w .1))
 
+-- What a call on a draft does.
 unfoldable pub draftCall : OnDraft → Step Reply
 draftCall (draftName s) = replying Name (nameCall s)
 draftCall (draftType t) = replying TypeR (typeCall t)
 
+-- What a call on a sealed workbench does.
 unfoldable pub sealedCall : OnSealed → Step Reply
 sealedCall (sealedName s) = replying Name (nameCall s)
 sealedCall (sealedType t) = replying TypeR (typeCall t)
@@ -59,6 +63,7 @@ abbrev pub onDraft : DraftCall → OnDraft
 onDraft (DName s) = draftName (now s)
 onDraft (DType t) = draftType (withFields now t)
 
+-- The same of a call on a sealed workbench.
 abbrev pub onSealed : SealedCall → OnSealed
 onSealed (SName s) = sealedName (now s)
 onSealed (SType t) = sealedType (withFields now t)
