@@ -37,3 +37,6 @@ pub extern "C" fn nikdawam_run(heap: Global, script: &[u8], answers: &mut [u8]) 
     fill_front(answers, text.as_slice());
     length
 }
+
+#[cfg(test)]
+mod tests;
