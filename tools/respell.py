@@ -19,12 +19,15 @@ import sys
 MADE = {"Answers.antt", "Invariants.antt", "Choices.antt", "Proof.antt"}
 # A lemma's type, then its name.
 JOINED = {"Later-refl", "Later-trans"}
-# Names that would fall together with a function's.
+# Names that would fall together with another's.
 APART = {
     "name-at": "name_at_lem",
     "type-at": "type_at_lem",
     "same-fields": "same_fields_lem",
     "is-full": "is_full_lem",
+    # A parameter of `run` has the plain name, and would hide the definition in its contract.
+    "onDraft": "called_on_draft",
+    "onSealed": "called_on_sealed",
 }
 # Names that a `ghost use` gives with `as`.
 GIVEN = re.compile(r"\bas ([a-z][\w'-]*[A-Z][\w'-]*)")

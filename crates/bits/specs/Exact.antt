@@ -1,5 +1,5 @@
 -- Exact results, and when they do not fit 64 bits.
-use Rattle.std.specs.Prelude.{ℕ, ◌-◌, ◌^◌, Bool, ◌||◌, ℤ, pos, negsuc, int_lt}
+use Rattle.std.specs.Prelude.{◌-◌, ◌^◌, Bool, ◌||◌, ℤ, pos, negsuc, int_lt}
 
 -- The number is below -2^63 or above 2^63 - 1.
 abbrev pub outside : ℤ → Bool

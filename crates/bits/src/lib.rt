@@ -1,4 +1,6 @@
 // 64-bit numbers, as SMT-LIB's bit vectors have them.
+#![tactic(auto)]
+
 pub mod bitvec;
 #[cfg(test)]
 mod tests;

@@ -1,21 +1,20 @@
 -- Names and types are entered lawfully, and opening is sound.
-use Rattle.std.proofs.Common.{◌≡◌, ℕ, zero, suc, ◌+◌, ◌-◌, ◌<◌, ◌≤◌, Bool, true, false, leb, List, [], ◌∷◌, ◌++◌, length, get_or, Some, None, codes, Option, sym, refl, ap, ◌∙◌, subst, true≢false, arith}
+use Rattle.std.proofs.Common.{◌≡◌, ℕ, zero, suc, ◌<◌, true, leb, List, [], ◌∷◌, ◌++◌, length, get_or, Some, None, codes, sym, refl, ◌∙◌, subst, true≢false, arith}
 use mathlib.Core.Bool.{false≢true}
-use Rattle.std.specs.Str.{bytes_eq}
 use Rattle.std.proofs.lemmas.Slice.Eq.{bytes_eq-Decides}
 use Rattle.std.proofs.lemmas.List.{append-nil, length_push}
 use Rattle.tables.specs.declared.capacities.Capacities.{Capacities}
 use Rattle.tables.specs.declared.ids.NameId.{NameId}
 use Rattle.tables.specs.declared.ids.TypeId.{TypeId}
 use Rattle.tables.specs.declared.term_type.TermType.TheVariants.{Bool as BoolT}
-use Rattle.tables.specs.Types.{Type', same_type}
+use Rattle.tables.specs.Types.{Type'}
 use Rattle.tables.specs.Contents.{Contents, name_at, type_at, opening}
 use Rattle.tables.specs.Kinds.{name_kind, type_kind, find, enter_name, enter_type}
 use Rattle.tables.specs.Shapes.{ascending_after, fits}
 use Rattle.tables.specs.Calls.{name_call, type_call}
 use Rattle.tables.proofs.Room.{name_room, room_name, type_room, room_type}
 use Rattle.laws.specs.Sound.{PartsBelow, Sound}
-use Rattle.laws.specs.Lawful.{recap, Later, Lawful, NameStands, TypeStands}
+use Rattle.laws.specs.Lawful.{recap, Lawful, NameStands, TypeStands}
 use Rattle.laws.proofs.Once.{each_push, at_old, at_new, once_push, first_some, first_none}
 use Rattle.laws.proofs.SameTypes.{types_same, same_types}
 use Rattle.laws.proofs.Growth.{parts_more, fits_parts}

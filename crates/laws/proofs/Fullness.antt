@@ -1,13 +1,10 @@
 -- `Full` comes exactly when cells are missing.
-use Rattle.std.proofs.Common.{◌≡◌, ℕ, ◌-◌, ◌<◌, ◌≤◌, Bool, true, false, cond, ◌&&◌, ltb, leb, ◌⊎◌, List, length, Some, None, Err, Option, sym, refl, ap, ◌∙◌, subst, inl, inr, true≢false, arith, ltb-false, ltb-true, le-ltb, lt-ltb, le-leb, leb-false, leb-true}
-use mathlib.Core.Bool.{false≢true}
+use Rattle.std.proofs.Common.{◌≡◌, ℕ, ◌-◌, ◌≤◌, Bool, true, false, cond, ◌&&◌, ltb, leb, List, length, Some, None, Option, sym, refl, ap, subst, inl, inr, true≢false, ltb-false, ltb-true, le-ltb, lt-ltb, le-leb, leb-false, leb-true}
 use borrow.Author.Tests.{lt-leb}
-use Rattle.std.proofs.lemmas.Slice.Eq.{bytes_eq-Decides}
-use Rattle.tables.specs.declared.result.CompileError.TheVariants.{Full}
 use Rattle.tables.specs.declared.result.Table.{Table}
 use Rattle.tables.specs.declared.result.Table.TheVariants.{Terms, Types, Names, Lists, Rows}
 use Rattle.tables.specs.Types.{Type', fields_of}
-use Rattle.tables.specs.Contents.{Contents, name_at, type_at}
+use Rattle.tables.specs.Contents.{Contents}
 use Rattle.tables.specs.Kinds.{name_kind, type_kind, find, enter_name, enter_type}
 use Rattle.tables.specs.Shapes.{fits}
 use Rattle.tables.specs.Calls.{name_call, type_call}

@@ -1,12 +1,12 @@
 -- The parts of a type, where more is held, and where the type may be entered.
-use Rattle.std.proofs.Common.{◌≡◌, ℕ, ◌<◌, ◌≤◌, Bool, true, not, ◌&&◌, ltb, List, [], ◌∷◌, length, arith, ltb-true}
+use Rattle.std.proofs.Common.{◌≡◌, ℕ, ◌<◌, ◌≤◌, true, not, List, [], ◌∷◌, length, arith, ltb-true}
 use Rattle.std.proofs.lemmas.Bool.{and_parts}
 use Rattle.tables.specs.declared.term_type.FieldType.{FieldType}
 use Rattle.tables.specs.declared.term_type.TermType.TheVariants.{Bool as BoolT, Long, String, Decimal, Datetime, Duration, Entity, Set, Option, Record}
 use Rattle.tables.specs.Types.{Type'}
 use Rattle.tables.specs.Spans.{every}
 use Rattle.tables.specs.Contents.{Contents, type_at}
-use Rattle.tables.specs.Shapes.{is_name, is_type, is_option, plain, field_fits, ascending, fits}
+use Rattle.tables.specs.Shapes.{is_name, is_type, is_option, field_fits, ascending, fits}
 use Rattle.laws.specs.Sound.{Each, PartsBelow}
 
 pub each_weaker : {X : Type 0} (P Q : X → Type 0) → ((x : X) → P x → Q x) → (xs : List X) → Each P xs → Each Q xs

@@ -1,13 +1,13 @@
 -- The cell of a type can be told from its tree, so two types with one tree have one number.
-use Rattle.std.proofs.Common.{◌≡◌, ℕ, zero, suc, ◌<◌, ◌≤◌, true, List, [], ◌∷◌, length, Some, None, Option, sym, refl, ap, ◌∙◌, ap₂, arith}
+use Rattle.std.proofs.Common.{◌≡◌, ℕ, zero, suc, ◌<◌, ◌≤◌, List, [], ◌∷◌, length, Some, None, Option, sym, refl, ap, ◌∙◌, ap₂, arith}
 use Rattle.std.proofs.lemmas.Slice.Eq.{bytes_eq-Decides}
 use Rattle.tables.specs.declared.term_type.FieldType.{FieldType}
 use Rattle.tables.specs.declared.term_type.TermType.TheVariants.{Bool as BoolT, Long, String, Decimal, Datetime, Duration, Entity, Set, Option as OptionT, Record}
 use Rattle.tables.specs.Types.{Type'}
 use Rattle.tables.specs.Contents.{Contents, name_at, type_at}
 use Rattle.tables.specs.Kinds.{name_kind, type_kind, find}
-use Rattle.laws.specs.Trees.{Tree, Fields, bool, long, string, decimal, datetime, duration, entity, set, option, record', none, field, field_trees, grown, tree_to, tree_of}
-use Rattle.laws.specs.Sound.{Each, PartsBelow, Sound, HeldOnce, SoundTablesHoldOnce}
+use Rattle.laws.specs.Trees.{Tree, Fields, bool, long, string, decimal, datetime, duration, entity, set, option, record', none, field, field_trees, grown, tree_to}
+use Rattle.laws.specs.Sound.{Each, PartsBelow, Sound, SoundTablesHoldOnce}
 use Rattle.laws.proofs.Once.{first_at}
 use Rattle.laws.proofs.SameTypes.{types_same, same_types}
 

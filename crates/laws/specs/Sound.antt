@@ -1,6 +1,5 @@
 -- Tables that calls can lead to.
 use Rattle.std.specs.Prelude.{◌≡◌, ℕ, ◌<◌, List, [], ◌∷◌, length}
-use Rattle.tables.specs.declared.term_type.FieldType.{FieldType}
 use Rattle.tables.specs.declared.term_type.TermType.TheVariants.{Bool as BoolT, Long, String, Decimal, Datetime, Duration, Entity, Set, Option, Record}
 use Rattle.tables.specs.Types.{Type'}
 use Rattle.tables.specs.Contents.{Contents, name_at, type_at}

@@ -1,3 +1,5 @@
+#![tactic(auto)]
+
 ghost use Rattle.laws.specs.Lawful.{CallsAreLawful, FullComesExactlyWhenCellsAreMissing};
 ghost use Rattle.laws.specs.Sound.{SoundTablesHoldOnce};
 

@@ -1,11 +1,11 @@
 -- The names that opening enters find room.
-use Rattle.std.proofs.Common.{◌≡◌, ℕ, ◌+◌, ◌-◌, ◌<◌, ◌≤◌, true, List, [], ◌∷◌, Ok, Err, codes, Result, sym, refl, ap, ◌∙◌, subst, arith}
+use Rattle.std.proofs.Common.{◌≡◌, true, Ok, Err, codes, Result, sym, ap, ◌∙◌, subst, arith}
 use Rattle.tables.specs.declared.capacities.Capacities.{Capacities}
 use Rattle.tables.specs.declared.ids.NameId.{NameId}
 use Rattle.tables.specs.declared.result.CompileError.{CompileError}
 use Rattle.tables.specs.Ranges.{in_range}
 use Rattle.tables.specs.Contents.{Contents, nameless, opening}
-use Rattle.tables.specs.Kinds.{Outcome, Now, name_kind, first_from, find, put_unless, enter, enter_name, answering}
+use Rattle.tables.specs.Kinds.{Now, name_kind, first_from, find, put_unless, enter, enter_name, answering}
 use Rattle.tables.proofs.Ranges.{ranged}
 use Rattle.tables.proofs.Room.{room_name}
 

@@ -1,5 +1,5 @@
 -- What it says that no table lacks cells.
-use Rattle.std.proofs.Common.{◌≡◌, ℕ, ◌-◌, ◌<◌, ◌≤◌, Bool, true, false, cond, ◌&&◌, ltb, leb, List, length, Some, None, Option, sym, refl, ap, ◌∙◌, subst, ap₂, arith, ltb-true, lt-ltb, le-leb, leb-true}
+use Rattle.std.proofs.Common.{◌≡◌, ℕ, ◌-◌, ◌<◌, ◌≤◌, Bool, true, false, cond, ◌&&◌, ltb, leb, List, length, Some, None, Option, sym, refl, ap, subst, ap₂, ltb-true, lt-ltb, le-leb, leb-true}
 use Rattle.std.proofs.lemmas.Bool.{and_parts, and_from}
 use Rattle.tables.specs.declared.result.Table.{Table}
 use Rattle.tables.specs.declared.result.Table.TheVariants.{Types, Names, Lists}

@@ -1,5 +1,5 @@
 -- What the tables hold, and what reads them.
-use Rattle.std.specs.Prelude.{ℕ, Bool, true, false, List, [], ◌∷◌, map, length, vec_items, codes, slice_index_or}
+use Rattle.std.specs.Prelude.{ℕ, true, false, List, [], ◌∷◌, map, length, vec_items, codes, slice_index_or}
 use Rattle.tables.specs.declared.capacities.Capacities.{Capacities}
 use Rattle.tables.specs.declared.term.Term.{Term}
 use Rattle.tables.specs.declared.term.Term.TheVariants.{Bool as Truth}

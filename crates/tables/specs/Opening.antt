@@ -1,11 +1,10 @@
 -- What opening answers.
-use Rattle.std.specs.Prelude.{◌≡◌, Bool, true, false, ◌⊎◌, Ok, Err, Result}
+use Rattle.std.specs.Prelude.{◌≡◌, true, false, ◌⊎◌, Ok, Err, Result}
 use Rattle.tables.specs.declared.capacities.Capacities.{Capacities}
 use Rattle.tables.specs.declared.result.CompileError.{CompileError}
 use Rattle.tables.specs.declared.result.CompileError.TheVariants.{BadInput, NoMemory}
-use Rattle.tables.specs.declared.storage.Tables.{Tables}
 use Rattle.tables.specs.Ranges.{in_range}
-use Rattle.tables.specs.Contents.{Contents, contents, opening}
+use Rattle.tables.specs.Contents.{Contents, opening}
 
 -- Capacities outside their ranges are BadInput, and no others are. Within them the tables hold what
 -- opening enters, unless there is no memory for them.

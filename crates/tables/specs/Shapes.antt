@@ -1,5 +1,5 @@
 -- Which types may be entered: their parts are entered already, and options stand where they may.
-use Rattle.std.specs.Prelude.{ℕ, Bool, true, false, not, ◌&&◌, List, [], ◌∷◌, length, nat_lt}
+use Rattle.std.specs.Prelude.{Bool, true, false, not, ◌&&◌, List, [], ◌∷◌, length, nat_lt}
 use Rattle.tables.specs.declared.ids.NameId.{NameId}
 use Rattle.tables.specs.declared.ids.TypeId.{TypeId}
 use Rattle.tables.specs.declared.term_type.FieldType.{FieldType}

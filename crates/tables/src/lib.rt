@@ -1,3 +1,5 @@
+#![tactic(auto)]
+
 mod append;
 pub mod capacities;
 pub mod enter;

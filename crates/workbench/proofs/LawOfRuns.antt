@@ -1,19 +1,18 @@
 -- The law of runs.
-use Rattle.std.proofs.Common.{◌≡◌, ℕ, List, [], ◌∷◌, ◌++◌, Ok, Err, sym, refl, ap, ◌∙◌, subst}
+use Rattle.std.proofs.Common.{List, [], ◌∷◌, ◌++◌, sym, refl, ◌∙◌, subst}
 use mathlib.Core.Logic.{∥∥₁_elim}
 use native.Mathlib.Nat.{ℕ_set}
 use Rattle.std.proofs.lemmas.List.{append-nil}
-use Rattle.tables.specs.declared.capacities.Capacities.{Capacities}
 use Rattle.tables.specs.Ranges.{Smaller}
 use Rattle.tables.specs.Contents.{Contents, opening}
-use Rattle.laws.specs.Sound.{Sound, HeldOnce}
-use Rattle.laws.specs.Lawful.{recap, Later, Lawful, NameStands, TypeStands}
+use Rattle.laws.specs.Sound.{HeldOnce}
+use Rattle.laws.specs.Lawful.{recap, Later, Lawful}
 use Rattle.laws.proofs.Entries.{name_lawful, type_lawful, opening_sound}
 use Rattle.laws.proofs.Fullness.{full_exactly}
 use Rattle.laws.proofs.Inverse.{hold_once}
 use Rattle.workbench.specs.declared.calls.Reply.{Reply}
 use Rattle.workbench.specs.declared.calls.Reply.TheVariants.{Name, «Type» as TypeR}
-use Rattle.workbench.specs.Runs.{OnDraft, draft_name, draft_type, OnSealed, sealed_name, sealed_type, Answer, draft_call, sealed_call, calls, runs}
+use Rattle.workbench.specs.Runs.{OnDraft, draft_name, draft_type, OnSealed, sealed_name, sealed_type, draft_call, sealed_call, calls, runs}
 use Rattle.workbench.specs.Reached.{ReachedDraft, ReachedSealed}
 use Rattle.workbench.specs.Law.{Alike, PointsAt, SealedPointsAt, RefusedCallsChangeNothing, LargerWorkbenchesAnswerAlike, EachStructureHasOneNumber, NumbersLast, LawOfRuns}
 use Rattle.workbench.proofs.Lawful.{Later-trans, names_later, types_later, replying_lawful, calls_append, calls_later, calls_sound, calls_alike}

@@ -1,13 +1,13 @@
 -- Lists of lawful calls.
 use Rattle.std.proofs.Common.{◌≡◌, ℕ, ◌<◌, Bool, true, false, ◌⊎◌, List, [], ◌∷◌, ◌++◌, length, get_or, Ok, Err, Result, sym, refl, ap, ◌∙◌, subst, inl, inr, arith, length-append}
-use Rattle.std.proofs.lemmas.List.{append-nil, append_assoc, get_or_append_left}
+use Rattle.std.proofs.lemmas.List.{append_assoc, get_or_append_left}
 use Rattle.tables.specs.declared.capacities.Capacities.{Capacities}
 use Rattle.tables.specs.declared.result.CompileError.{CompileError}
 use Rattle.tables.specs.declared.result.CompileError.TheVariants.{NoSuchEntityType, NoSuchAttribute, TypeError, UnsupportedFeature, Full, BadInput, TooDeep, NotCovered, NotBoolean, BadRow, NoMemory}
 use Rattle.tables.specs.declared.term_type.TermType.TheVariants.{Bool as BoolT}
 use Rattle.tables.specs.Types.{Type'}
 use Rattle.tables.specs.Ranges.{Smaller}
-use Rattle.tables.specs.Contents.{Contents, name_at, type_at, opening}
+use Rattle.tables.specs.Contents.{Contents}
 use Rattle.tables.specs.Kinds.{Step, answering}
 use Rattle.laws.specs.Sound.{Sound}
 use Rattle.laws.specs.Lawful.{is_full, recap, Later, Lawful, NameStands, TypeStands}

@@ -1,10 +1,10 @@
 -- Lists of calls, what each answers, and what the tables hold afterwards.
-use Rattle.std.specs.Prelude.{ℕ, List, [], ◌∷◌, ◌++◌, Ok, Err, Result}
+use Rattle.std.specs.Prelude.{ℕ, List, [], ◌∷◌, ◌++◌, Result}
 use Rattle.tables.specs.declared.capacities.Capacities.{Capacities}
 use Rattle.tables.specs.declared.result.CompileError.{CompileError}
 use Rattle.tables.specs.Types.{Type'}
 use Rattle.tables.specs.Contents.{Contents, opening}
-use Rattle.tables.specs.Kinds.{Outcome, Step, answering}
+use Rattle.tables.specs.Kinds.{Step, answering}
 use Rattle.tables.specs.Calls.{name_call, type_call}
 use Rattle.tables.specs.Spans.{with_fields}
 use Rattle.workbench.specs.declared.calls.DraftCall.{DraftCall}
@@ -55,11 +55,11 @@ runs k ds ss =
     (s.0, d.1 ++ s.1)
 
 -- The calls that the code's values stand for.
-abbrev pub on_draft : DraftCall → OnDraft
-on_draft (DName s) = draft_name s.now
-on_draft (DType t) = draft_type (with_fields (λ x. x.now) t)
+abbrev pub called_on_draft : DraftCall → OnDraft
+called_on_draft (DName s) = draft_name s.now
+called_on_draft (DType t) = draft_type (with_fields (λ x. x.now) t)
 
 -- The same of a call on a sealed workbench.
-abbrev pub on_sealed : SealedCall → OnSealed
-on_sealed (SName s) = sealed_name s.now
-on_sealed (SType t) = sealed_type (with_fields (λ x. x.now) t)
+abbrev pub called_on_sealed : SealedCall → OnSealed
+called_on_sealed (SName s) = sealed_name s.now
+called_on_sealed (SType t) = sealed_type (with_fields (λ x. x.now) t)

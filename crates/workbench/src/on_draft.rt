@@ -5,7 +5,7 @@ ghost use Rattle.tables.specs.Opening.{Opened};
 ghost use Rattle.tables.specs.Kinds.{Now};
 ghost use Rattle.tables.specs.Calls.{name_call, type_call};
 ghost use Rattle.laws.specs.Sound.{HeldOnce};
-ghost use Rattle.workbench.specs.Runs.{draft_call, on_draft};
+ghost use Rattle.workbench.specs.Runs.{draft_call, called_on_draft};
 
 use crate::calls::*;
 use crate::draft::*;
@@ -58,7 +58,7 @@ impl Draft {
 
     // One call of a list.
     pub fn call(&mut self, call: DraftCall) -> Result<Reply, CompileError>
-        ensures { Now (draft_call (on_draft call.entry) (contents self.old.tables)) result (contents self.new.tables) }
+        ensures { Now (draft_call (called_on_draft call.entry) (contents self.old.tables)) result (contents self.new.tables) }
     {
         match call {
             DraftCall::Name(bytes) => {

@@ -4,7 +4,7 @@ ghost use Rattle.tables.specs.Contents.{contents};
 ghost use Rattle.tables.specs.Kinds.{Now};
 ghost use Rattle.tables.specs.Calls.{name_call, type_call};
 ghost use Rattle.laws.specs.Sound.{HeldOnce};
-ghost use Rattle.workbench.specs.Runs.{sealed_call, on_sealed};
+ghost use Rattle.workbench.specs.Runs.{sealed_call, called_on_sealed};
 
 use crate::calls::*;
 use crate::draft::*;
@@ -39,7 +39,7 @@ impl Sealed {
 
     // One call of a list.
     pub fn call(&mut self, call: SealedCall) -> Result<Reply, CompileError>
-        ensures { Now (sealed_call (on_sealed call.entry) (contents self.old.tables)) result (contents self.new.tables) }
+        ensures { Now (sealed_call (called_on_sealed call.entry) (contents self.old.tables)) result (contents self.new.tables) }
     {
         match call {
             SealedCall::Name(bytes) => {

@@ -1,6 +1,6 @@
 ghost use Rattle.std.specs.Prelude.{◌≡◌, ◌+◌, ◌≤◌, ◌++◌, map, length, vec_len, vec_capacity};
 ghost use Rattle.tables.specs.Contents.{contents};
-ghost use Rattle.workbench.specs.Runs.{draft_call, sealed_call, on_draft, on_sealed, calls as called};
+ghost use Rattle.workbench.specs.Runs.{draft_call, sealed_call, called_on_draft, called_on_sealed, calls as called};
 ghost use Rattle.workbench.specs.Ran.{Ran};
 ghost use Rattle.workbench.specs.Law.{LawOfRuns};
 
@@ -24,8 +24,8 @@ fn draft_calls(
     answers: &mut Vec<Result<Reply, CompileError>>,
 )
     requires { vec_len answers.old + length calls.now ≤ vec_capacity answers.old }
-    ensures tables { contents draft.new.tables ≡ (called draft_call (map on_draft calls.now) (contents draft.old.tables)).0 }
-    ensures items { answers.new.items ≡ answers.old.items ++ (called draft_call (map on_draft calls.now) (contents draft.old.tables)).1 }
+    ensures tables { contents draft.new.tables ≡ (called draft_call (map called_on_draft calls.now) (contents draft.old.tables)).0 }
+    ensures items { answers.new.items ≡ answers.old.items ++ (called draft_call (map called_on_draft calls.now) (contents draft.old.tables)).1 }
     ensures len { vec_len answers.new ≡ vec_len answers.old + length calls.now }
     ensures capacity { vec_capacity answers.new ≡ vec_capacity answers.old }
 {
@@ -42,8 +42,8 @@ fn sealed_calls(
     answers: &mut Vec<Result<Reply, CompileError>>,
 )
     requires { vec_len answers.old + length calls.now ≤ vec_capacity answers.old }
-    ensures tables { contents sealed.new.tables ≡ (called sealed_call (map on_sealed calls.now) (contents sealed.old.tables)).0 }
-    ensures items { answers.new.items ≡ answers.old.items ++ (called sealed_call (map on_sealed calls.now) (contents sealed.old.tables)).1 }
+    ensures tables { contents sealed.new.tables ≡ (called sealed_call (map called_on_sealed calls.now) (contents sealed.old.tables)).0 }
+    ensures items { answers.new.items ≡ answers.old.items ++ (called sealed_call (map called_on_sealed calls.now) (contents sealed.old.tables)).1 }
     ensures len { vec_len answers.new ≡ vec_len answers.old + length calls.now }
     ensures capacity { vec_capacity answers.new ≡ vec_capacity answers.old }
 {
@@ -60,7 +60,7 @@ pub fn run(
     on_draft: &[DraftCall],
     on_sealed: &[SealedCall],
 ) -> Result<RunResult, CompileError>
-    ensures answers { Ran capacities (map on_draft on_draft.now) (map on_sealed on_sealed.now) result }
+    ensures answers { Ran capacities (map called_on_draft on_draft.now) (map called_on_sealed on_sealed.now) result }
     ensures law { LawOfRuns }
 {
     let mut draft = Draft::open(heap, capacities)?;

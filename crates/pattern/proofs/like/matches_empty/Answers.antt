@@ -4,16 +4,16 @@ use Rattle.pattern.specs.Like.{is_empty, some_suffix, begins_with, matches}
 use Rattle.pattern.proofs.Suffixes.{matches_run, matches_byte}
 use Rattle.pattern.proofs.like.matches_empty.Goals as goal
 
-pub returns-then-number-ne-ANY-RUN : goal.returns-then-number-ne-ANY-RUN
+pub returns-then-number-ne-ANY_RUN : goal.returns-then-number-ne-ANY_RUN
 unfolding begins_with
-returns-then-number-ne-ANY-RUN c =
-    sym (ap (λ test. test []) (matches_byte c.args.pattern.now c.loop-number.number-index c.loop-number-test.true c.if-number-ne-ANY-RUN.true))
+returns-then-number-ne-ANY_RUN c =
+    sym (ap (λ test. test []) (matches_byte c.args.pattern.now c.loop-number.number-index c.loop-number-test.true c.if-number-ne-ANY_RUN.true))
     ∙ c.loop-number.invariant
 
 pub loop-number-preserved : goal.loop-number-preserved
 unfolding some_suffix
 loop-number-preserved c =
-    sym (ap (λ test. test []) (matches_run c.args.pattern.now c.loop-number.number-index c.loop-number-test.true c.if-number-ne-ANY-RUN.false))
+    sym (ap (λ test. test []) (matches_run c.args.pattern.now c.loop-number.number-index c.loop-number-test.true c.if-number-ne-ANY_RUN.false))
     ∙ c.loop-number.invariant
 
 pub returns : goal.returns

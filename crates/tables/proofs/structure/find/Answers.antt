@@ -1,4 +1,4 @@
-use Rattle.std.proofs.Common.{◌≡◌, ◌<◌, ◌≤◌, sym, ◌∙◌, subst}
+use Rattle.std.proofs.Common.{◌<◌, ◌≤◌, sym, ◌∙◌, subst}
 use Rattle.tables.specs.Contents.{contents}
 use Rattle.tables.specs.Kinds.{find}
 use Rattle.tables.proofs.Search.{first_here, first_next, first_end}

@@ -1,20 +1,20 @@
 use Rattle.std.proofs.Common.{map, vec_items, arith, rules}
 use Rattle.tables.specs.Contents.{contents}
-use Rattle.workbench.specs.Runs.{draft_call, on_draft, calls}
+use Rattle.workbench.specs.Runs.{draft_call, called_on_draft, calls}
 use Rattle.workbench.proofs.Turns.{left_more, left_end}
 use Rattle.workbench.proofs.run.draft_calls.Goals as goal
 
 pub loop-i-preserved : goal.loop-i-preserved
 loop-i-preserved c =
-    let whole = calls draft_call (map on_draft c.args.calls.now) (contents c.args.draft.now.tables) in (
-      left_more draft_call on_draft c.args.calls.now c.loop-i.i (contents c.loop-i.draft.tables) (vec_items c.loop-i.answers) whole (vec_items c.args.answers.now) c.loop-i.invariant.0
-          _ c.loop-i-test.true c.call-answer.ensures c.push-reserved.ensures.items,
+    let whole = calls draft_call (map called_on_draft c.args.calls.now) (contents c.args.draft.now.tables) in (
+      left_more draft_call called_on_draft c.args.calls.now c.loop-i.i (contents c.loop-i.draft.tables) (vec_items c.loop-i.answers) whole (vec_items c.args.answers.now) c.loop-i.invariant.0
+          _ c.loop-i-test.true c.call-answer.ensures c.push_reserved.ensures.items,
       omega arith,
       search rules,
     )
 
 pub returns : goal.returns
 returns c =
-    let whole = calls draft_call (map on_draft c.args.calls.now) (contents c.args.draft.now.tables) in
-    let e = left_end draft_call on_draft c.args.calls.now c.loop-i.i (contents c.loop-i.draft.tables) (vec_items c.loop-i.answers) whole (vec_items c.args.answers.now) c.loop-i.invariant.0 c.loop-i-test.false in
+    let whole = calls draft_call (map called_on_draft c.args.calls.now) (contents c.args.draft.now.tables) in
+    let e = left_end draft_call called_on_draft c.args.calls.now c.loop-i.i (contents c.loop-i.draft.tables) (vec_items c.loop-i.answers) whole (vec_items c.args.answers.now) c.loop-i.invariant.0 c.loop-i-test.false in
     record { tables = e.0; items = e.1; len = omega arith; capacity = c.loop-i.invariant.2 }

@@ -1,12 +1,12 @@
 use Rattle.std.proofs.Common.{◌≡◌, ◌+◌, map, vec_items, vec_len, vec_capacity}
 use Rattle.tables.specs.Contents.{contents}
-use Rattle.workbench.specs.Runs.{draft_call, on_draft, calls}
+use Rattle.workbench.specs.Runs.{draft_call, called_on_draft, calls}
 use Rattle.workbench.proofs.Turns.{Left}
 use Rattle.workbench.proofs.run.draft_calls.Given as goal
 
 abbrev pub invariant-loop-i : goal.invariant-loop-i
 invariant-loop-i l =
-    Left draft_call on_draft l.calls l.i (contents l.draft.tables) (vec_items l.answers)
-    (calls draft_call (map on_draft l.calls) (contents l.initial.draft.tables)) (vec_items l.initial.answers)
+    Left draft_call called_on_draft l.calls l.i (contents l.draft.tables) (vec_items l.answers)
+    (calls draft_call (map called_on_draft l.calls) (contents l.initial.draft.tables)) (vec_items l.initial.answers)
     × (vec_len l.answers ≡ vec_len l.initial.answers + l.i)
     × (vec_capacity l.answers ≡ vec_capacity l.initial.answers)

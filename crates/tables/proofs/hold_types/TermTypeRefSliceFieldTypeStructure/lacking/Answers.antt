@@ -5,8 +5,8 @@ use Rattle.tables.proofs.hold_types.TermTypeRefSliceFieldTypeStructure.lacking.G
 pub returns-then-len-tables : goal.returns-then-len-tables
 returns-then-len-tables c = search (rules, length-map)
 
-pub returns-then-fields-of-tables : goal.returns-then-fields-of-tables
-returns-then-fields-of-tables c = search (rules, length-map)
+pub returns-then-fields_of-tables : goal.returns-then-fields_of-tables
+returns-then-fields_of-tables c = search (rules, length-map)
 
-pub returns-else-fields-of-tables : goal.returns-else-fields-of-tables
-returns-else-fields-of-tables c = search (rules, length-map)
+pub returns-else-fields_of-tables : goal.returns-else-fields_of-tables
+returns-else-fields_of-tables c = search (rules, length-map)

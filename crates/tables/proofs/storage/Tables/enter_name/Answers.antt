@@ -2,9 +2,9 @@ use Rattle.std.proofs.Common.{rules}
 use Rattle.tables.specs.Kinds.{enter, enter_name, find}
 use Rattle.tables.proofs.storage.Tables.enter_name.Goals as goal
 
-pub returns-in-err-n : goal.returns-in-err-n
+pub returns-in_err-n : goal.returns-in_err-n
 unfolding enter_name enter find
-returns-in-err-n c = search rules
+returns-in_err-n c = search rules
 
 pub returns : goal.returns
 unfolding enter_name enter find

@@ -2,18 +2,18 @@ use Rattle.std.proofs.Common.{rules}
 use Rattle.workbench.specs.Runs.{draft_call}
 use Rattle.workbench.proofs.draft.Draft.call.Goals as goal
 
-pub returns-in-err-n : goal.returns-in-err-n
+pub returns-in_err-n-in-Name : goal.returns-in_err-n-in-Name
 unfolding draft_call
-returns-in-err-n c = search rules
+returns-in_err-n-in-Name c = search rules
 
-pub returns-in-err-n-2 : goal.returns-in-err-n-2
+pub returns-in_err-n-in-Type : goal.returns-in_err-n-in-Type
 unfolding draft_call
-returns-in-err-n-2 c = search rules
+returns-in_err-n-in-Type c = search rules
 
-pub returns-in-ok-n : goal.returns-in-ok-n
+pub returns-in_ok-n-in-Name : goal.returns-in_ok-n-in-Name
 unfolding draft_call
-returns-in-ok-n c = search rules
+returns-in_ok-n-in-Name c = search rules
 
-pub returns-in-ok-n-2 : goal.returns-in-ok-n-2
+pub returns-in_ok-n-in-Type : goal.returns-in_ok-n-in-Type
 unfolding draft_call
-returns-in-ok-n-2 c = search rules
+returns-in_ok-n-in-Type c = search rules
