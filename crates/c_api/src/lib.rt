@@ -1,4 +1,6 @@
 // Runs scripts for programs in C and Rust.
+#![tactic(auto)]
+
 ghost use Rattle.std.specs.Prelude.{◌≡◌, ◌≤◌, ◌++◌, length, drop};
 ghost use Rattle.c_api.specs.Filled.{Filled};
 

@@ -1,4 +1,6 @@
 // Answers a script of requests to a workbench.
+#![tactic(auto)]
+
 use script::session::run_script;
 use std::alloc::AllocError;
 use std::io::{Read, Write};

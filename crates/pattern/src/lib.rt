@@ -1,3 +1,5 @@
+#![tactic(auto)]
+
 pub mod like;
 #[cfg(test)]
 mod tests;

@@ -1,5 +1,5 @@
-use Rattle.std.proofs.Common.{◌≡◌, ℕ, Bool, true, false, ◌⊎◌, List, [], ◌∷◌, ◌++◌, Ok, Err, Result, sym, subst, inl, inr, append_assoc}
-use Rattle.script.specs.Sessions.{Ended, Lines, Answered}
+use Rattle.std.proofs.Common.{◌≡◌, ℕ, Bool, true, false, List, [], ◌∷◌, ◌++◌, Ok, Err, Result, sym, subst, inr, append_assoc}
+use Rattle.script.specs.Sessions.{Lines, Answered}
 
 same : (x y : List ℕ) → y ≡ x → Lines x → Lines y
 same x y e h = subst Lines (sym e) h

@@ -1,5 +1,5 @@
 -- What a script's workbench holds, and what a call on it does.
-use Rattle.std.specs.Prelude.{◌≡◌, Bool, true, false, Some, None, Ok, Err, Option, Result}
+use Rattle.std.specs.Prelude.{◌≡◌, Bool, true, false, Some, None, Err, Option, Result}
 use Rattle.tables.specs.declared.result.CompileError.{CompileError}
 use Rattle.tables.specs.declared.result.CompileError.TheVariants.{NoMemory}
 use Rattle.tables.specs.Contents.{Contents, contents}

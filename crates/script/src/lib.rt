@@ -1,4 +1,6 @@
 // Answers scripts: text of one request a line, each carried out on a workbench.
+#![tactic(auto)]
+
 mod answers;
 mod enter;
 mod fault;

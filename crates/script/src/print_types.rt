@@ -5,7 +5,7 @@ use tables::ids::*;
 use tables::storage::*;
 use tables::term_type::*;
 
-#[cycle(push_of_push_part_push_record_push_type)]
+#[cycle(push_types)]
 pub fn push_type(out: &mut Output, tables: &Tables, id: TypeId) -> Result<(), AllocError> {
     match tables.term_type(id) {
         TermType::Bool => out.push_str("bool"),
@@ -27,7 +27,7 @@ fn push_entity(out: &mut Output, tables: &Tables, name: NameId) -> Result<(), Al
     out.push_str(")")
 }
 
-#[cycle(push_of_push_part_push_record_push_type)]
+#[cycle(push_types)]
 fn push_of(
     out: &mut Output,
     tables: &Tables,
@@ -40,7 +40,7 @@ fn push_of(
     out.push_str(")")
 }
 
-#[cycle(push_of_push_part_push_record_push_type)]
+#[cycle(push_types)]
 fn push_record(
     out: &mut Output,
     tables: &Tables,
@@ -60,7 +60,7 @@ fn push_record(
 
 // A part has been entered before its whole, so it has a smaller number; the test is how the proof
 // knows it.
-#[cycle(push_of_push_part_push_record_push_type)]
+#[cycle(push_types)]
 fn push_part(
     out: &mut Output,
     tables: &Tables,

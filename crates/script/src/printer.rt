@@ -49,7 +49,7 @@ impl Output {
     }
 
     pub fn push_number(&mut self, number: u64) -> Result<(), AllocError> {
-        let digits = format!(in self.bytes.allocator(); "{number}")?;
+        let digits = format!(in *self.bytes.allocator(); "{number}")?;
         self.push_bytes(digits.as_bytes())
     }
 

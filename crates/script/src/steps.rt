@@ -62,7 +62,7 @@ fn read_basic(line: &Line, id: FormId) -> Result<Step, Bad> {
 }
 
 // Appends the steps of a type. `depth` is how many lists may still begin.
-#[cycle(push_list_push_record_push_type)]
+#[cycle(push_steps)]
 fn push_type(
     heap: Global,
     line: &Line,
@@ -83,7 +83,7 @@ fn push_type(
     Ok(())
 }
 
-#[cycle(push_list_push_record_push_type)]
+#[cycle(push_steps)]
 fn push_list(
     heap: Global,
     line: &Line,
@@ -110,7 +110,7 @@ fn push_list(
     Ok(())
 }
 
-#[cycle(push_list_push_record_push_type)]
+#[cycle(push_steps)]
 fn push_record(
     heap: Global,
     line: &Line,

@@ -1,4 +1,4 @@
-use Rattle.std.proofs.Common.{[], get_or, drop, sym, ap, ◌∙◌}
+use Rattle.std.proofs.Common.{[], sym, ap, ◌∙◌}
 use Rattle.std.proofs.lemmas.List.{drop_all}
 use Rattle.pattern.specs.Like.{is_empty, some_suffix, begins_with, matches}
 use Rattle.pattern.proofs.Suffixes.{matches_run, matches_byte}

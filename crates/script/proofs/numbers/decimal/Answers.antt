@@ -6,16 +6,16 @@ pub loop-byte-preserved : goal.loop-byte-preserved
 loop-byte-preserved c =
     more
     c.loop-byte.number
-    c.in-ok-number.number
+    c.in_ok-number.number
     _
     c.args.digits.now
     c.loop-byte.byte-index
     (omega arith)
     (omega (
       arith,
-      c.in-ok-digit.ensures,
-      c.in-ok-checked-mul.ensures,
-      c.in-ok-number.ensures,
+      c.in_ok-digit.ensures,
+      c.in_ok-checked_mul.ensures,
+      c.in_ok-number.ensures,
     ))
     c.loop-byte.invariant
 

@@ -11,7 +11,7 @@ loop-byte-preserved c =
     c.args.bytes.now
     c.loop-byte.byte-index
     (omega arith)
-    c.in-ok-push-in-quotes.ensures
+    c.in_ok-push_in_quotes.ensures
     c.loop-byte.invariant
 
 pub returns : goal.returns

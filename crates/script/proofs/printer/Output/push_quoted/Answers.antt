@@ -9,6 +9,6 @@ returns c =
     _
     _
     c.args.bytes.now
-    c.in-ok-push-bytes.ensures
-    c.in-ok-push-all-in-quotes.ensures
-    c.in-ok-push-bytes-2.ensures
+    c.in_ok-push_bytes.ensures
+    c.in_ok-push_all_in_quotes.ensures
+    c.in_ok-push_bytes-2.ensures
