@@ -1,18 +1,18 @@
 -- Members of lists, and what holds of each.
 use Rattle.std.proofs.Common.{◌≡◌, List, [], ◌∷◌, map, sym, refl, ap, subst, inl, inr}
-use Rattle.std.specs.List.{AllByRecursion as All}
+use Rattle.std.specs.List.{AllByRecursion}
 use Rattle.sorting.specs.Orders.{In}
 
-pub all_in : {A : Type 0} (P : A → Type 0) (xs : List A) → ((x : A) → In x xs → P x) → All P xs
+pub all_in : {A : Type 0} (P : A → Type 0) (xs : List A) → ((x : A) → In x xs → P x) → AllByRecursion P xs
 all_in P [] f = tt
 all_in P (x ∷ xs) f = (f x (inl refl), all_in P xs (λ z h. f z (inr h)))
 
-pub in_all : {A : Type 0} (P : A → Type 0) (xs : List A) → All P xs → (x : A) → In x xs → P x
+pub in_all : {A : Type 0} (P : A → Type 0) (xs : List A) → AllByRecursion P xs → (x : A) → In x xs → P x
 in_all P [] h z k = absurd k
 in_all P (x ∷ xs) h z (inl p) = subst P (sym p) h.0
 in_all P (x ∷ xs) h z (inr k) = in_all P xs h.1 z k
 
-pub all_members : {A : Type 0} (xs : List A) → All (λ x. In x xs) xs
+pub all_members : {A : Type 0} (xs : List A) → AllByRecursion (λ x. In x xs) xs
 all_members xs = all_in (λ x. In x xs) xs (λ x h. h)
 
 pub in_map : {A B : Type 0} (f : A → B) (z : B) (xs : List A) → In z (map f xs) → (x : A) × In x xs × (z ≡ f x)

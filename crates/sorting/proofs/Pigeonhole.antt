@@ -1,7 +1,7 @@
 -- A list in order whose elements have numbers of their own below n has at most n elements.
 use Rattle.std.proofs.Common.{◌≡◌, ℕ, zero, suc, ◌<◌, ◌≤◌, Bool, true, false, cond, eqb, List, [], ◌∷◌, length, Ordering, Equal, sym, refl, subst, inl, inr, arith}
 use Rattle.std.proofs.lemmas.Bool.{eqb-true, eqb-false}
-use Rattle.std.specs.List.{AllByRecursion as All}
+use Rattle.std.specs.List.{AllByRecursion}
 use Rattle.sorting.specs.Orders.{In, Ascending}
 use Rattle.sorting.proofs.Lists.{all_in, in_all}
 use Rattle.sorting.proofs.Orders.{less_not_equal}
@@ -10,26 +10,26 @@ module _ {A : Type 0} (f : A → ℕ) where
   -- No two elements have the same number.
   abbrev Apart : List A → Type 0
   Apart [] = Unit {0}
-  Apart (x ∷ xs) = All (λ y. f x ≡ f y → ⊥) xs × Apart xs
+  Apart (x ∷ xs) = AllByRecursion (λ y. f x ≡ f y → ⊥) xs × Apart xs
 
   -- The elements with another number than n.
   abbrev without : ℕ → List A → List A
   without n [] = []
   without n (x ∷ xs) = cond (eqb (f x) n) (without n xs) (x ∷ without n xs)
 
-  all_without : (P : A → Type 0) (n : ℕ) (xs : List A) → All P xs → All P (without n xs)
+  all_without : (P : A → Type 0) (n : ℕ) (xs : List A) → AllByRecursion P xs → AllByRecursion P (without n xs)
   all_without P n [] h = tt
   all_without P n (x ∷ xs) h = go (eqb (f x) n) (all_without P n xs h.1)
     where
-      go : (b : Bool) → All P (without n xs) → All P (cond b (without n xs) (x ∷ without n xs))
+      go : (b : Bool) → AllByRecursion P (without n xs) → AllByRecursion P (cond b (without n xs) (x ∷ without n xs))
       go true ih = ih
       go false ih = (h.0, ih)
 
-  below_without : (n : ℕ) (xs : List A) → All (λ x. f x < suc n) xs → All (λ x. f x < n) (without n xs)
+  below_without : (n : ℕ) (xs : List A) → AllByRecursion (λ x. f x < suc n) xs → AllByRecursion (λ x. f x < n) (without n xs)
   below_without n [] h = tt
   below_without n (x ∷ xs) h = go (eqb (f x) n) refl (below_without n xs h.1)
     where
-      go : (b : Bool) → eqb (f x) n ≡ b → All (λ x. f x < n) (without n xs) → All (λ x. f x < n) (cond b (without n xs) (x ∷ without n xs))
+      go : (b : Bool) → eqb (f x) n ≡ b → AllByRecursion (λ x. f x < n) (without n xs) → AllByRecursion (λ x. f x < n) (cond b (without n xs) (x ∷ without n xs))
       go true e ih = ih
       go false e ih = (let ne = eqb-false (f x) n e in let lt = h.0 in omega (arith, ne), ih)
 
@@ -42,7 +42,7 @@ module _ {A : Type 0} (f : A → ℕ) where
       go false ih = (all_without (λ y. f x ≡ f y → ⊥) n xs h.0, ih)
 
   -- Where no element has the number, all stay.
-  without_none : (n : ℕ) (xs : List A) → All (λ y. n ≡ f y → ⊥) xs → length xs ≤ length (without n xs)
+  without_none : (n : ℕ) (xs : List A) → AllByRecursion (λ y. n ≡ f y → ⊥) xs → length xs ≤ length (without n xs)
   without_none n [] h = omega arith
   without_none n (x ∷ xs) h = go (eqb (f x) n) refl (without_none n xs h.1)
     where
@@ -56,10 +56,10 @@ module _ {A : Type 0} (f : A → ℕ) where
   without_one n (x ∷ xs) h = go (eqb (f x) n) refl (without_one n xs h.1)
     where
       go : (b : Bool) → eqb (f x) n ≡ b → length xs ≤ suc (length (without n xs)) → length (x ∷ xs) ≤ suc (length (cond b (without n xs) (x ∷ without n xs)))
-      go true e ih = omega (arith, without_none n xs (subst (λ k. All (λ y. k ≡ f y → ⊥) xs) (eqb-true (f x) n e) h.0))
+      go true e ih = omega (arith, without_none n xs (subst (λ k. AllByRecursion (λ y. k ≡ f y → ⊥) xs) (eqb-true (f x) n e) h.0))
       go false e ih = omega arith
 
-  apart_fits : (n : ℕ) (xs : List A) → All (λ x. f x < n) xs → Apart xs → length xs ≤ n
+  apart_fits : (n : ℕ) (xs : List A) → AllByRecursion (λ x. f x < n) xs → Apart xs → length xs ≤ n
   apart_fits zero [] h a = omega arith
   apart_fits zero (x ∷ xs) h a = let lt = h.0 in omega arith
   apart_fits (suc n) xs h a =
@@ -73,8 +73,8 @@ module _ {A : Type 0} (f : A → ℕ) where
   )
 
 -- The same number is to mean equal, of the elements or of all.
-pub pigeonhole_in : {A : Type 0} (cmp : A → A → Ordering) (f : A → ℕ) (n : ℕ) (xs : List A) → ((x y : A) → In x xs → In y xs → f x ≡ f y → cmp x y ≡ Equal) → Ascending cmp xs → All (λ x. f x < n) xs → length xs ≤ n
+pub pigeonhole_in : {A : Type 0} (cmp : A → A → Ordering) (f : A → ℕ) (n : ℕ) (xs : List A) → ((x y : A) → In x xs → In y xs → f x ≡ f y → cmp x y ≡ Equal) → Ascending cmp xs → AllByRecursion (λ x. f x < n) xs → length xs ≤ n
 pigeonhole_in cmp f n xs same h below = apart_fits f n xs below (ascending_apart f cmp xs same h)
 
-pub pigeonhole : {A : Type 0} (cmp : A → A → Ordering) (f : A → ℕ) (n : ℕ) (xs : List A) → ((x y : A) → f x ≡ f y → cmp x y ≡ Equal) → Ascending cmp xs → All (λ x. f x < n) xs → length xs ≤ n
+pub pigeonhole : {A : Type 0} (cmp : A → A → Ordering) (f : A → ℕ) (n : ℕ) (xs : List A) → ((x y : A) → f x ≡ f y → cmp x y ≡ Equal) → Ascending cmp xs → AllByRecursion (λ x. f x < n) xs → length xs ≤ n
 pigeonhole cmp f n xs same h below = pigeonhole_in cmp f n xs (λ x y k l. same x y) h below
