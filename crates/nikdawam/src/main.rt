@@ -4,6 +4,7 @@
 use script::session::run_script;
 use std::alloc::AllocError;
 use std::io::{Read, Write};
+use std::process::ExitCode;
 use std::{env, fs, io};
 
 const USAGE: &str = "usage: nikdawam [FILE]
@@ -111,12 +112,23 @@ fn execute(rt: &HostRuntime) -> Result<(), Failure> {
     Ok(())
 }
 
-fn main(rt: HostRuntime) -> Result<(), Failure> {
-    let result = execute(&rt);
-    match &result {
-        Ok(()) | Err(Failure::Told) => {}
-        Err(Failure::Io(error)) => eprintln!(rt; "nikdawam: {error}")?,
-        Err(Failure::NoMemory) => eprintln!(rt; "nikdawam: out of memory")?,
+// Says why, where that is not said yet.
+fn tell(rt: &HostRuntime, failure: &Failure) -> io::Result<()> {
+    match failure {
+        Failure::Told => {}
+        Failure::Io(error) => eprintln!(rt; "nikdawam: {error}")?,
+        Failure::NoMemory => eprintln!(rt; "nikdawam: out of memory")?,
     }
-    result
+    Ok(())
+}
+
+fn main(rt: HostRuntime) -> ExitCode {
+    match execute(&rt) {
+        Ok(()) => ExitCode::SUCCESS,
+        Err(failure) => {
+            // Where the message cannot be written, the status still tells.
+            let _ = tell(&rt, &failure);
+            ExitCode::FAILURE
+        }
+    }
 }
