@@ -85,6 +85,8 @@ def main():
             print(f"fall together: {old} and {', '.join(others)} as {new}", file=sys.stderr)
     if bad:
         return 1
+    if not changes:
+        return 0
     words = "|".join(re.escape(name) for name in sorted(changes, key=len, reverse=True))
     token = re.compile(rf"(?<![\w'-])(?:{words})(?![\w'-])")
     quoted = re.compile(r"`[^`\n]*`")

@@ -2,3 +2,5 @@
 
 pub mod laws;
 pub mod sort;
+#[cfg(test)]
+mod tests;
