@@ -1,14 +1,13 @@
 -- A call that tests a structure and enters it, for every kind of structure.
-use Rattle.std.proofs.Common.{◌≡◌, ℕ, Bool, true, false, cond, [], Some, None, Ok, Err, Option, Result, sym, refl, ap, ◌∙◌, subst, ap₂, true≢false}
-use mathlib.Core.Bool.{false≢true}
+use Rattle.std.proofs.Common.{◌≡◌, ℕ, Bool, true, false, cond, [], Some, None, Ok, Err, Option, sym, refl, ap, ◌∙◌, subst, ap₂, true≢false}
 use Rattle.std.proofs.lemmas.List.{append-nil}
 use Rattle.tables.specs.declared.capacities.Capacities.{Capacities}
 use Rattle.tables.specs.declared.result.CompileError.{CompileError}
-use Rattle.tables.specs.declared.result.CompileError.TheVariants.{NoSuchEntityType, NoSuchAttribute, TypeError, UnsupportedFeature, Full, BadInput, TooDeep, NotCovered, NotBoolean, BadRow, NoMemory}
+use Rattle.tables.specs.declared.result.CompileError.TheVariants.{Full, BadInput}
 use Rattle.tables.specs.declared.result.Table.{Table}
 use Rattle.tables.specs.Ranges.{Smaller}
 use Rattle.tables.specs.Contents.{Contents}
-use Rattle.tables.specs.Kinds.{Outcome, Step, Kind, find, put_unless, enter_unless, enter, answering}
+use Rattle.tables.specs.Kinds.{Outcome, Step, Kind, find, put_unless, enter_unless, enter, answering, giving}
 use Rattle.laws.specs.Sound.{Sound}
 use Rattle.laws.specs.Lawful.{is_full, recap, Later, Lawful}
 
@@ -26,7 +25,7 @@ Later-refl w =
 
 -- The call.
 abbrev pub checked : {A B : Type 0} → (Contents → Bool) → Kind A → A → (ℕ → B) → Step B
-checked test k a f w = cond (test w) ((enter k a w).0, answering f (enter k a w).1) (w, Err BadInput)
+checked test k a f w = cond (test w) (giving f (enter k a) w) (w, Err BadInput)
 
 -- What a kind has to keep to for the call to be lawful.
 pub record Entry {A B : Type 0} (test : Contents → Bool) (k : Kind A) (a : A) (f : ℕ → B) (Q : B → Contents → Type 0) : Type 0 where
@@ -39,14 +38,6 @@ pub record Entry {A B : Type 0} (test : Contents → Bool) (k : Kind A) (a : A) 
   pub keeps : (w : Contents) → test w ≡ true → find k a w ≡ None → Sound w → Sound (k.put a w)
   pub held : (w : Contents) (i : ℕ) → find k a w ≡ Some i → Q (f i) w
   pub new : (w : Contents) → Q (f (k.count w)) (k.put a w)
-
-abbrev is_err : {A : Type 0} → Result A CompileError → Type 0
-is_err (Ok a) = ⊥
-is_err (Err e) = Unit {0}
-
-abbrev ok_or : {A : Type 0} → A → Result A CompileError → A
-ok_or d (Ok a) = a
-ok_or d (Err e) = d
 
 module _ {A B : Type 0} (test : Contents → Bool) (k : Kind A) (a : A) (f : ℕ → B) where
   abbrev both : Outcome ℕ → Outcome B
@@ -96,25 +87,11 @@ module _ {A B : Type 0} (test : Contents → Bool) (k : Kind A) (a : A) (f : ℕ
   pub is_only_full : (w : Contents) (x : Table) → (checked test k a f w).1 ≡ Err (Full x) → (test w ≡ true) × (find k a w ≡ None) × (k.lacking a w ≡ Some x)
   is_only_full w x p = go (way w)
     where
-      table_in : Result B CompileError → Table
-      table_in (Ok b) = x
-      table_in (Err (NoSuchEntityType n)) = x
-      table_in (Err (NoSuchAttribute n)) = x
-      table_in (Err TypeError) = x
-      table_in (Err UnsupportedFeature) = x
-      table_in (Err (Full y)) = y
-      table_in (Err BadInput) = x
-      table_in (Err TooDeep) = x
-      table_in (Err NotCovered) = x
-      table_in (Err NotBoolean) = x
-      table_in (Err BadRow) = x
-      table_in (Err NoMemory) = x
-
       go : Way w → (test w ≡ true) × (find k a w ≡ None) × (k.lacking a w ≡ Some x)
-      go (bad t) = absurd (false≢true (ap is_full (sym (ap (λ o. o.1) (is_bad w t)) ∙ p)))
-      go (found i t s) = absurd (false≢true (ap is_full (sym (ap (λ o. o.1) (is_found w i t s)) ∙ p)))
-      go (full y t s l) = (t, s, l ∙ ap Some (ap table_in (sym (ap (λ o. o.1) (is_full_lem w y t s l)) ∙ p)))
-      go (new t s l) = absurd (false≢true (ap is_full (sym (ap (λ o. o.1) (is_new w t s l)) ∙ p)))
+      go (bad t) = absurd (cc (is_bad w t))
+      go (found i t s) = absurd (cc (is_found w i t s))
+      go (full y t s l) = (t, s, cc (is_full_lem w y t s l))
+      go (new t s l) = absurd (cc (is_new w t s l))
 
   pub is_always_full : (w : Contents) (x : Table) → test w ≡ true → find k a w ≡ None → k.lacking a w ≡ Some x → (checked test k a f w).1 ≡ Err (Full x)
   is_always_full w x t e l = ap (λ o. o.1) (is_full_lem w x t e l)
@@ -127,7 +104,7 @@ module _ {A B : Type 0} (test : Contents → Bool) (k : Kind A) (a : A) (f : ℕ
         go (bad t) = ap (λ o. o.0) (is_bad w t)
         go (found i t s) = ap (λ o. o.0) (is_found w i t s)
         go (full x t s l) = ap (λ o. o.0) (is_full_lem w x t s l)
-        go (new t s l) = absurd (subst is_err (sym p ∙ ap (λ o. o.1) (is_new w t s l)) tt)
+        go (new t s l) = absurd (cc (is_new w t s l))
 
     extends : (w : Contents) → Later w (checked test k a f w).0
     extends w = go (way w)
@@ -163,13 +140,13 @@ module _ {A B : Type 0} (test : Contents → Bool) (k : Kind A) (a : A) (f : ℕ
       where
         take : (v : Contents) (x : B) → checked test k a f w ≡ (v, Ok x) → Q x v → Q b (checked test k a f w).0
         take v x e q =
-            let z : x ≡ b = ap (ok_or x) (sym (ap (λ o. o.1) e) ∙ p) in
+            let z : x ≡ b = cc in
             subst (λ o. Q b o.0) (sym e) (subst (λ y. Q y v) z q)
 
         go : Way w → Q b (checked test k a f w).0
-        go (bad t) = absurd (subst is_err (sym (ap (λ o. o.1) (is_bad w t)) ∙ p) tt)
+        go (bad t) = absurd (cc (is_bad w t))
         go (found i t s) = take w (f i) (is_found w i t s) (law.held w i s)
-        go (full x t s l) = absurd (subst is_err (sym (ap (λ o. o.1) (is_full_lem w x t s l)) ∙ p) tt)
+        go (full x t s l) = absurd (cc (is_full_lem w x t s l))
         go (new t s l) = take (k.put a w) (f (k.count w)) (is_new w t s l) (law.new w)
 
     pub entry_lawful : Lawful (checked test k a f) Q

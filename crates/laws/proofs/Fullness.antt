@@ -1,8 +1,8 @@
 -- `Full` comes exactly when cells are missing.
-use Rattle.std.proofs.Common.{◌≡◌, ℕ, ◌-◌, ◌≤◌, Bool, true, false, cond, ◌&&◌, ltb, leb, List, length, Some, None, Option, sym, refl, ap, subst, inl, inr, true≢false, ltb-false, ltb-true, le-ltb, lt-ltb, le-leb, leb-false, leb-true}
+use Rattle.std.proofs.Common.{◌≡◌, ℕ, ◌-◌, ◌≤◌, Bool, true, false, cond, ◌&&◌, ltb, leb, List, length, Some, None, Option, refl, ap, subst, inl, inr, true≢false, ltb-false, ltb-true, le-ltb, lt-ltb, le-leb, leb-false, leb-true}
 use borrow.Author.Tests.{lt-leb}
 use Rattle.tables.specs.declared.result.Table.{Table}
-use Rattle.tables.specs.declared.result.Table.TheVariants.{Terms, Types, Names, Lists, Rows}
+use Rattle.tables.specs.declared.result.Table.TheVariants.{Types, Names, Lists}
 use Rattle.tables.specs.Types.{Type', fields_of}
 use Rattle.tables.specs.Contents.{Contents}
 use Rattle.tables.specs.Kinds.{name_kind, type_kind, find, enter_name, enter_type}
@@ -17,14 +17,6 @@ missing : (o : Option ℕ) → ((i : ℕ) → o ≡ Some i → ⊥) → o ≡ No
 missing None h = refl
 missing (Some i) h = absurd (h i refl)
 
-abbrev table_in : Table → Option Table → Table
-table_in d None = d
-table_in d (Some x) = x
-
-abbrev is_some : Option Table → Type 0
-is_some None = ⊥
-is_some (Some x) = Unit {0}
-
 -- The table that a name lacks, both ways.
 module _ (s : List ℕ) (w : Contents) where
   name_lacking : (x : Table) → name_kind.lacking s w ≡ Some x → NameLacks s w x
@@ -32,13 +24,11 @@ module _ (s : List ℕ) (w : Contents) where
     where
       go : (a b : Bool) → ltb (length w.names) w.capacities.names ≡ a → leb (length s) (w.capacities.bytes - w.bytes) ≡ b
           → cond (a && b) None (Some Names) ≡ Some x → NameLacks s w x
-      go true true p q r = absurd (subst is_some (sym r) tt)
-      go true false p q r = subst (NameLacks s w) (ap (table_in Names) r) (inr (leb-false (length s) (w.capacities.bytes - w.bytes) q))
-      go false b p q r = subst (NameLacks s w) (ap (table_in Names) r) (inl (ltb-false (length w.names) w.capacities.names p))
+      go true true p q r = absurd (cc)
+      go true false p q r = subst (NameLacks s w) {x = Names} (cc) (inr (leb-false (length s) (w.capacities.bytes - w.bytes) q))
+      go false b p q r = subst (NameLacks s w) {x = Names} (cc) (inl (ltb-false (length w.names) w.capacities.names p))
 
   lacking_name : (x : Table) → NameLacks s w x → name_kind.lacking s w ≡ Some x
-  lacking_name Terms h = absurd h
-  lacking_name Types h = absurd h
   lacking_name Names (inl l) = ap (λ a. cond (a && leb (length s) (w.capacities.bytes - w.bytes)) None (Some Names)) (le-ltb _ _ l)
   lacking_name Names (inr l) = go (ltb (length w.names) w.capacities.names) (leb (length s) (w.capacities.bytes - w.bytes)) (lt-leb _ _ l)
     where
@@ -46,8 +36,7 @@ module _ (s : List ℕ) (w : Contents) where
       go true false q = refl
       go true true q = absurd (true≢false q)
       go false b q = refl
-  lacking_name Lists h = absurd h
-  lacking_name Rows h = absurd h
+  lacking_name x h = absurd h
 
 -- The table that a type lacks, both ways.
 module _ (t : Type') (w : Contents) where
@@ -56,16 +45,14 @@ module _ (t : Type') (w : Contents) where
     where
       go : (a b : Bool) → ltb (length w.types) w.capacities.types ≡ a → leb (length (fields_of t)) (w.capacities.lists - w.lists) ≡ b
           → cond a (cond b None (Some Lists)) (Some Types) ≡ Some x → TypeLacks t w x
-      go true true p q r = absurd (subst is_some (sym r) tt)
-      go true false p q r = subst (TypeLacks t w) (ap (table_in Lists) r) (ltb-true (length w.types) w.capacities.types p, leb-false (length (fields_of t)) (w.capacities.lists - w.lists) q)
-      go false b p q r = subst (TypeLacks t w) (ap (table_in Types) r) (ltb-false (length w.types) w.capacities.types p)
+      go true true p q r = absurd (cc)
+      go true false p q r = subst (TypeLacks t w) {x = Lists} (cc) (ltb-true (length w.types) w.capacities.types p, leb-false (length (fields_of t)) (w.capacities.lists - w.lists) q)
+      go false b p q r = subst (TypeLacks t w) {x = Types} (cc) (ltb-false (length w.types) w.capacities.types p)
 
   lacking_type : (x : Table) → TypeLacks t w x → type_kind.lacking t w ≡ Some x
-  lacking_type Terms h = absurd h
   lacking_type Types l = ap (λ a. cond a (cond (leb (length (fields_of t)) (w.capacities.lists - w.lists)) None (Some Lists)) (Some Types)) (le-ltb _ _ l)
-  lacking_type Names h = absurd h
   lacking_type Lists (l, m) = λ i. cond (lt-ltb _ _ l i) (cond (lt-leb _ _ m i) None (Some Lists)) (Some Types)
-  lacking_type Rows h = absurd h
+  lacking_type x h = absurd h
 
 name_full : (s : List ℕ) → FullExactly (name_call s) (λ w. (length s ≤ 255) × NameAbsent s w) (NameLacks s)
 unfolding name_call enter_name

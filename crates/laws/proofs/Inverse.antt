@@ -1,5 +1,7 @@
 -- The cell of a type can be told from its tree, so two types with one tree have one number.
-use Rattle.std.proofs.Common.{◌≡◌, ℕ, zero, suc, ◌<◌, ◌≤◌, List, [], ◌∷◌, length, Some, None, Option, sym, refl, ap, ◌∙◌, ap₂, arith}
+use Rattle.std.proofs.Common.{◌≡◌, ℕ, zero, suc, ◌<◌, ◌≤◌, List, [], ◌∷◌, length, sym, refl, ap, ◌∙◌, ap₂, arith}
+use Rattle.std.specs.Option.{unwrap_or}
+use Rattle.std.specs.List.{AllByRecursion}
 use Rattle.std.proofs.lemmas.Slice.Eq.{bytes_eq-Decides}
 use Rattle.tables.specs.declared.term_type.FieldType.{FieldType}
 use Rattle.tables.specs.declared.term_type.TermType.TheVariants.{Bool as BoolT, Long, String, Decimal, Datetime, Duration, Entity, Set, Option as OptionT, Record}
@@ -7,19 +9,15 @@ use Rattle.tables.specs.Types.{Type'}
 use Rattle.tables.specs.Contents.{Contents, name_at, type_at}
 use Rattle.tables.specs.Kinds.{name_kind, type_kind, find}
 use Rattle.laws.specs.Trees.{Tree, Fields, bool, long, string, decimal, datetime, duration, entity, set, option, record', none, field, field_trees, grown, tree_to}
-use Rattle.laws.specs.Sound.{Each, PartsBelow, Sound, SoundTablesHoldOnce}
+use Rattle.laws.specs.Sound.{PartsBelow, Sound, SoundTablesHoldOnce}
 use Rattle.laws.proofs.Once.{first_at}
 use Rattle.laws.proofs.SameTypes.{types_same, same_types}
 
-abbrev number_in : Option ℕ → ℕ
-number_in None = 0
-number_in (Some n) = n
-
 abbrev name_number : Contents → List ℕ → ℕ
-name_number w s = number_in (find name_kind s w)
+name_number w s = unwrap_or (find name_kind s w) 0
 
 abbrev type_number : Contents → Type' → ℕ
-type_number w t = number_in (find type_kind t w)
+type_number w t = unwrap_or (find type_kind t w) 0
 
 -- The cell of a tree.
 unfoldable mutual
@@ -43,13 +41,13 @@ module _ (w : Contents) (g : Sound w) where
   name_at_lem : (n : ℕ) → n < length w.names → name_number w (name_at w n) ≡ n
   unfolding find
   name_at_lem n h =
-      ap number_in (first_at (name_kind.held (name_at w n) w) (length w.names) n h ((bytes_eq-Decides (name_at w n) (name_at w n)).1 refl)
+      ap (λ o. unwrap_or o 0) (first_at (name_kind.held (name_at w n) w) (length w.names) n h ((bytes_eq-Decides (name_at w n) (name_at w n)).1 refl)
       (λ j l e. g.names_once j n l h ((bytes_eq-Decides (name_at w j) (name_at w n)).0 e)))
 
   type_at_lem : (n : ℕ) → n < length w.types → type_number w (type_at w n) ≡ n
   unfolding find
   type_at_lem n h =
-      ap number_in (first_at (type_kind.held (type_at w n) w) (length w.types) n h (same_types (type_at w n) (type_at w n) refl)
+      ap (λ o. unwrap_or o 0) (first_at (type_kind.held (type_at w n) w) (length w.types) n h (same_types (type_at w n) (type_at w n) refl)
       (λ j l e. g.types_once j n l h (types_same (type_at w j) (type_at w n) e)))
 
   -- Where p gives the trees of the types below m, the cell of what is grown from them is the cell itself.
@@ -57,24 +55,19 @@ module _ (w : Contents) (g : Sound w) where
     part : (j : ℕ) → j < m → type_number w (cell_of w (p j)) ≡ j
     part j l = ap (type_number w) (ih j l) ∙ type_at_lem j (omega arith)
 
-    fields_back : (fs : List FieldType) → Each (λ f. (f.name.0 < length w.names) × (f.ty.0 < m)) fs → cells_of w (field_trees w p fs) ≡ fs
-    unfolding cells_of field_trees Each
+    fields_back : (fs : List FieldType) → AllByRecursion (λ f. (f.name.0 < length w.names) × (f.ty.0 < m)) fs → cells_of w (field_trees w p fs) ≡ fs
+    unfolding cells_of field_trees
     fields_back [] h = refl
     fields_back (f ∷ fs) ((a, b), r) =
         ap₂ ◌∷◌ (λ i. record { name = record { 0 = name_at_lem f.name.0 a i }; ty = record { 0 = part f.ty.0 b i } }) (fields_back fs r)
 
     grown_back : (t : Type') → PartsBelow (length w.names) m t → cell_of w (grown w p t) ≡ t
     unfolding cell_of
-    grown_back BoolT h = refl
-    grown_back Long h = refl
-    grown_back String h = refl
-    grown_back Decimal h = refl
-    grown_back Datetime h = refl
-    grown_back Duration h = refl
     grown_back (Entity n) h = ap (λ k. Entity (record { 0 = k })) (name_at_lem n.0 h)
     grown_back (Set t) h = ap (λ k. Set (record { 0 = k })) (part t.0 h)
     grown_back (OptionT t) h = ap (λ k. OptionT (record { 0 = k })) (part t.0 h)
     grown_back (Record fs) h = ap Record (fields_back fs h)
+    grown_back t h = refl
 
   tree_back : (d i : ℕ) → i < d → i < length w.types → cell_of w (tree_to w d i) ≡ type_at w i
   unfolding tree_to

@@ -31,23 +31,15 @@ module _ {X : Type 0} (d : X) (xs : List X) (x : X) where
       (λ e. refl) j hj)
       i hi
 
-abbrev is_none : {A : Type 0} → Option A → Type 0
-is_none None = Unit {0}
-is_none (Some a) = ⊥
-
-abbrev number_in : Option ℕ → ℕ
-number_in None = 0
-number_in (Some n) = n
-
 -- What a search finds passes the test, and is in range.
 pub first_some : (p : ℕ → Bool) (n k i : ℕ) → first_from p n k ≡ Some i → (n ≤ i) × (i < n + k) × (p i ≡ true)
 unfolding first_from
-first_some p n zero i e = absurd (subst is_none e tt)
+first_some p n zero i e = absurd (cc)
 first_some p n (suc k) i e = go (p n) refl e (first_some p (n + 1) k i)
   where
     go : (b : Bool) → p n ≡ b → cond b (Some n) (first_from p (n + 1) k) ≡ Some i
         → (first_from p (n + 1) k ≡ Some i → (n + 1 ≤ i) × (i < (n + 1) + k) × (p i ≡ true)) → (n ≤ i) × (i < n + suc k) × (p i ≡ true)
-    go true q r ih = let s : n ≡ i = ap number_in r in (omega arith, omega arith, ap p (sym s) ∙ q)
+    go true q r ih = let s : n ≡ i = cc in (omega arith, omega arith, ap p (sym s) ∙ q)
     go false q r ih = let (a, b, c) = ih r in (omega arith, omega arith, c)
 
 -- Where a search finds nothing, no number in range passes.
@@ -58,7 +50,7 @@ first_none p n (suc k) e i l h = go (p n) refl e (first_none p (n + 1) k) (cases
   where
     go : (b : Bool) → p n ≡ b → cond b (Some n) (first_from p (n + 1) k) ≡ None
         → (first_from p (n + 1) k ≡ None → (i : ℕ) → n + 1 ≤ i → i < (n + 1) + k → p i ≡ false) → (n < i) ⊎ (i ≤ n) → p i ≡ false
-    go true q r ih c = absurd (subst is_none (sym r) tt)
+    go true q r ih c = absurd (cc)
     go false q r ih (inl g) = ih r i (omega arith) (omega arith)
     go false q r ih (inr g) = let s : n ≡ i = omega arith in ap p (sym s) ∙ q
 

@@ -2,9 +2,9 @@
 use Rattle.std.specs.Prelude.{◌≡◌, ℕ, ◌-◌, ◌<◌, ◌≤◌, Bool, true, false, ◌⊎◌, List, ◌++◌, length, Ok, Err, Result, ◌≢◌}
 use Rattle.tables.specs.declared.capacities.Capacities.{Capacities}
 use Rattle.tables.specs.declared.result.CompileError.{CompileError}
-use Rattle.tables.specs.declared.result.CompileError.TheVariants.{NoSuchEntityType, NoSuchAttribute, TypeError, UnsupportedFeature, Full, BadInput, TooDeep, NotCovered, NotBoolean, BadRow, NoMemory}
+use Rattle.tables.specs.declared.result.CompileError.TheVariants.{Full}
 use Rattle.tables.specs.declared.result.Table.{Table}
-use Rattle.tables.specs.declared.result.Table.TheVariants.{Terms, Types, Names, Lists, Rows}
+use Rattle.tables.specs.declared.result.Table.TheVariants.{Types, Names, Lists}
 use Rattle.tables.specs.declared.term.Term.{Term}
 use Rattle.tables.specs.Types.{Type', fields_of}
 use Rattle.tables.specs.Ranges.{Smaller}
@@ -16,18 +16,8 @@ use Rattle.laws.specs.Sound.{Sound}
 
 -- The answer is `Full`, whatever table it names.
 abbrev pub is_full : {A : Type 0} → Result A CompileError → Bool
-is_full (Ok a) = false
-is_full (Err (NoSuchEntityType n)) = false
-is_full (Err (NoSuchAttribute n)) = false
-is_full (Err TypeError) = false
-is_full (Err UnsupportedFeature) = false
 is_full (Err (Full t)) = true
-is_full (Err BadInput) = false
-is_full (Err TooDeep) = false
-is_full (Err NotCovered) = false
-is_full (Err NotBoolean) = false
-is_full (Err BadRow) = false
-is_full (Err NoMemory) = false
+is_full r = false
 
 -- The same cells under other capacities.
 abbrev pub recap : Capacities → Contents → Contents
@@ -78,19 +68,14 @@ TypeAbsent t w = (i : ℕ) → i < length w.types → type_at w i ≢ t
 
 -- The table is the one with the lowest number that has too few free cells for the name.
 abbrev pub NameLacks : List ℕ → Contents → Table → Type 0
-NameLacks s w Terms = ⊥
-NameLacks s w Types = ⊥
 NameLacks s w Names = (w.capacities.names ≤ length w.names) ⊎ (w.capacities.bytes - w.bytes < length s)
-NameLacks s w Lists = ⊥
-NameLacks s w Rows = ⊥
+NameLacks s w x = ⊥
 
 -- The same of a type.
 abbrev pub TypeLacks : Type' → Contents → Table → Type 0
-TypeLacks t w Terms = ⊥
 TypeLacks t w Types = w.capacities.types ≤ length w.types
-TypeLacks t w Names = ⊥
 TypeLacks t w Lists = (length w.types < w.capacities.types) × (w.capacities.lists - w.lists < length (fields_of t))
-TypeLacks t w Rows = ⊥
+TypeLacks t w x = ⊥
 
 -- `Full` comes exactly when something that may be entered and is not held lacks cells in that table.
 pub record FullExactly {A : Type 0} (m : Step A) (Wanted : Contents → Type 0) (Lacks : Contents → Table → Type 0) : Type 0 where

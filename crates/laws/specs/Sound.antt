@@ -1,27 +1,18 @@
 -- Tables that calls can lead to.
-use Rattle.std.specs.Prelude.{◌≡◌, ℕ, ◌<◌, List, [], ◌∷◌, length}
-use Rattle.tables.specs.declared.term_type.TermType.TheVariants.{Bool as BoolT, Long, String, Decimal, Datetime, Duration, Entity, Set, Option, Record}
+use Rattle.std.specs.Prelude.{◌≡◌, ℕ, ◌<◌, length}
+use Rattle.std.specs.List.{AllByRecursion}
+use Rattle.tables.specs.declared.term_type.TermType.TheVariants.{Entity, Set, Option, Record}
 use Rattle.tables.specs.Types.{Type'}
 use Rattle.tables.specs.Contents.{Contents, name_at, type_at}
 use Rattle.laws.specs.Trees.{tree_of}
 
--- Each element is so.
-unfoldable pub Each : {X : Type 0} → (X → Type 0) → List X → Type 0
-Each P [] = Unit {0}
-Each P (x ∷ xs) = P x × Each P xs
-
 -- The parts of a type are entered: its names are among the first m, its types among the first n.
 abbrev pub PartsBelow : ℕ → ℕ → Type' → Type 0
-PartsBelow m n BoolT = Unit {0}
-PartsBelow m n Long = Unit {0}
-PartsBelow m n String = Unit {0}
-PartsBelow m n Decimal = Unit {0}
-PartsBelow m n Datetime = Unit {0}
-PartsBelow m n Duration = Unit {0}
 PartsBelow m n (Entity x) = x.0 < m
 PartsBelow m n (Set t) = t.0 < n
 PartsBelow m n (Option t) = t.0 < n
-PartsBelow m n (Record fs) = Each (λ f. (f.name.0 < m) × (f.ty.0 < n)) fs
+PartsBelow m n (Record fs) = AllByRecursion (λ f. (f.name.0 < m) × (f.ty.0 < n)) fs
+PartsBelow m n t = Unit {0}
 
 -- Each name and each cell of a type is held once, and the parts of a type come before it.
 pub record Sound (w : Contents) : Type 0 where

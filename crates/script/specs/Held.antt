@@ -2,15 +2,15 @@
 use Rattle.std.specs.Prelude.{◌≡◌, Bool, true, false, Some, None, Err, Option, Result}
 use Rattle.tables.specs.declared.result.CompileError.{CompileError}
 use Rattle.tables.specs.declared.result.CompileError.TheVariants.{NoMemory}
-use Rattle.tables.specs.Contents.{Contents, contents}
+use Rattle.tables.specs.Contents.{Contents}
 use Rattle.tables.specs.Kinds.{Step}
 use Rattle.script.specs.declared.state.State.{State}
 use Rattle.script.specs.declared.state.State.TheVariants.{Draft, Sealed, Closed}
 
 -- The contents of the workbench, where there is one.
 abbrev pub held : State → Option Contents
-held (Draft d) = Some (contents d.tables)
-held (Sealed s) = Some (contents s.tables)
+held (Draft d) = Some d
+held (Sealed s) = Some s
 held Closed = None
 
 -- Whether it is a draft.

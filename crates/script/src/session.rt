@@ -17,16 +17,7 @@ use tables::capacities::*;
 use tables::ids::*;
 use tables::result::*;
 use tables::storage::*;
-use workbench::draft::*;
-
-const LARGEST: Capacities = Capacities {
-    terms: 4096,
-    types: 512,
-    names: 1024,
-    bytes: 16384,
-    lists: 8192,
-    rows: 200,
-};
+use workbench::bench::*;
 
 #[derive(Drop)]
 struct Session {
@@ -39,7 +30,7 @@ impl Session {
     fn new(heap: Global) -> Result<Session, AllocError>
         ensures { IfOk result Starts }
     {
-        match Draft::open(heap, LARGEST) {
+        match Draft::open(heap, Capacities::LARGEST) {
             Ok(draft) => Ok(Session {
                 heap,
                 state: State::Draft(draft),

@@ -1,8 +1,7 @@
 // The workbench that a script works on.
 ghost use Rattle.std.specs.Prelude.{◌≡◌, false, Some, None, MatchOption};
-ghost use Rattle.tables.specs.Spans.{with_fields};
+ghost use Rattle.tables.specs.Types.{type_of};
 ghost use Rattle.tables.specs.Calls.{name_call, type_call};
-ghost use Rattle.tables.specs.Contents.{contents};
 ghost use Rattle.script.specs.Held.{held, On, is_draft};
 
 use std::mem;
@@ -10,7 +9,7 @@ use tables::ids::*;
 use tables::result::*;
 use tables::storage::*;
 use tables::term_type::*;
-use workbench::draft::*;
+use workbench::bench::*;
 
 #[derive(Drop)]
 pub enum State {
@@ -32,7 +31,7 @@ impl State {
     }
 
     pub fn term_type(&mut self, t: TermType<&[FieldType]>) -> Result<TypeId, CompileError>
-        ensures { On (type_call (with_fields (λ x. x.now) t.entry)) (held self.old) result (held self.new) }
+        ensures { On (type_call (type_of t.entry)) (held self.old) result (held self.new) }
     {
         match self {
             State::Draft(draft) => draft.term_type(t),
@@ -42,7 +41,7 @@ impl State {
     }
 
     pub fn tables(&self) -> Option<&Tables>
-        ensures { MatchOption result (held self.now ≡ None) (λ t. held self.now ≡ Some (contents t.now)) }
+        ensures { MatchOption result (held self.now ≡ None) (λ t. held self.now ≡ Some t.now) }
     {
         match self {
             State::Draft(draft) => Some(draft.tables()),

@@ -1,29 +1,30 @@
--- The turns of the comparison of two lists of fields.
-use Rattle.std.proofs.Common.{◌≡◌, ℕ, suc, ◌+◌, ◌<◌, ◌≤◌, Bool, true, false, ◌&&◌, List, [], ◌∷◌, length, get_or, drop, refl, ap, ap₂}
-use Rattle.std.proofs.lemmas.List.{drop_more, drop_all}
+-- The equality that is derived for types is that of their definition.
+use Rattle.std.proofs.Common.{◌≡◌, Bool, true, false, ◌&&◌, List, refl}
+use denote.RattleType.{RattleType}
+use Rattle.std.specs.declared.cmp.PartialEq.{Ghosts}
+use Rattle.std.specs.Cmp.Lexicographic.{pointwise}
+use Rattle.tables.specs.contracts.term_type.TermTypePartialEq.TheImpl.{ghosts, no_dict}
 use Rattle.tables.specs.declared.term_type.FieldType.{FieldType}
-use Rattle.tables.specs.Types.{same_field, same_fields}
+use Rattle.tables.specs.declared.term_type.TermType.{TermType}
+use Rattle.tables.specs.declared.term_type.TermType.TheVariants.{Bool as BoolT, Long, String, Decimal, Datetime, Duration, Entity, Set, Option, Record}
+use Rattle.tables.specs.Spans.{with_fields}
+use Rattle.tables.specs.Types.{same_field, same_type}
 
--- What is read past the end.
-abbrev pub none : FieldType
-none = record { name = record { 0 = 0 }; ty = record { 0 = 0 } }
+and_true : (b : Bool) → b ≡ (b && true)
+and_true true = refl
+and_true false = refl
 
-pub lengths_differ : (a b : List FieldType) → (length a ≡ length b → ⊥) → same_fields a b ≡ false
-unfolding same_fields
-lengths_differ [] [] n = absurd (n refl)
-lengths_differ [] (y ∷ b) n = refl
-lengths_differ (x ∷ a) [] n = refl
-lengths_differ (x ∷ a) (y ∷ b) n = go (same_field x y) (lengths_differ a b (λ e. n (ap suc e)))
-  where
-    go : (t : Bool) → same_fields a b ≡ false → (t && same_fields a b) ≡ false
-    go true e = e
-    go false e = refl
-
-module _ (a b : List FieldType) (i : ℕ) (d : FieldType) where
-  pub same_turn : i < length a → i < length b → same_fields (drop i a) (drop i b) ≡ (same_field (get_or a i d) (get_or b i d) && same_fields (drop (i + 1) a) (drop (i + 1) b))
-  unfolding same_fields
-  same_turn h g = ap₂ same_fields (drop_more a i d h) (drop_more b i d g)
-
-  pub same_end : length a ≤ i → length b ≤ i → same_fields (drop i a) (drop i b) ≡ true
-  unfolding same_fields
-  same_end h g = ap₂ same_fields (drop_all i a h) (drop_all i b g)
+module _ (F : RattleType) (E : Ghosts F.Denot) (fields : F.Denot → List FieldType) (same : (x y : F.Denot) → E.eq x y ≡ pointwise same_field (fields x) (fields y)) where
+  pub eq-same_type : (s t : TermType F.Denot) → (ghosts F E no_dict).eq s t ≡ same_type (with_fields fields s) (with_fields fields t)
+  unfolding same_type
+  eq-same_type BoolT BoolT = refl
+  eq-same_type Long Long = refl
+  eq-same_type String String = refl
+  eq-same_type Decimal Decimal = refl
+  eq-same_type Datetime Datetime = refl
+  eq-same_type Duration Duration = refl
+  eq-same_type (Entity m) (Entity n) = and_true _
+  eq-same_type (Set s) (Set t) = and_true _
+  eq-same_type (Option s) (Option t) = and_true _
+  eq-same_type (Record x) (Record y) = same x y
+  eq-same_type s t = refl

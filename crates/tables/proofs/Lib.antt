@@ -5,4 +5,4 @@ pub mod Fields
 pub mod Room
 pub mod Ranges
 pub mod Opening
-pub mod Turns
+pub mod Ascending

@@ -1,5 +1,5 @@
 -- The names that opening enters find room.
-use Rattle.std.proofs.Common.{◌≡◌, true, Ok, Err, codes, Result, sym, ap, ◌∙◌, subst, arith}
+use Rattle.std.proofs.Common.{◌≡◌, true, Ok, Err, codes, Result, ap, ◌∙◌, arith}
 use Rattle.tables.specs.declared.capacities.Capacities.{Capacities}
 use Rattle.tables.specs.declared.ids.NameId.{NameId}
 use Rattle.tables.specs.declared.result.CompileError.{CompileError}
@@ -39,9 +39,5 @@ module _ (c : Capacities) (e : in_range c ≡ true) where
         let o = ap (enter_name (codes "tag")) named_first.0 ∙ second_name in
         (call₂.0 ∙ ap (λ z. z.0) o, call₂.1 ∙ ap (λ z. z.1) o)
 
-abbrev is_err : Result NameId CompileError → Type 0
-is_err (Ok n) = ⊥
-is_err (Err e) = Unit {0}
-
 pub ok_not_err : {r : Result NameId CompileError} {n : NameId} {e : CompileError} → r ≡ Ok n → r ≡ Err e → ⊥
-ok_not_err p q = subst is_err (sym q ∙ p) tt
+ok_not_err p q = cc

@@ -5,8 +5,9 @@ use Rattle.std.proofs.lemmas.Bool.{and_parts, and_from}
 use Rattle.std.proofs.lemmas.List.{take_all, drop_all, take-append-le, drop-append-le, drop_at, map_push}
 use Rattle.tables.specs.declared.span.Span.{Span}
 use Rattle.tables.specs.declared.term_type.TermType.{TermType}
-use Rattle.tables.specs.declared.term_type.TermType.TheVariants.{Bool as BoolT, Long, String, Decimal, Datetime, Duration, Entity, Set, Option, Record}
-use Rattle.tables.specs.Spans.{part, with_fields, within, record_within, every}
+use Rattle.tables.specs.declared.term_type.TermType.TheVariants.{Record}
+use Rattle.std.specs.List.{list_all}
+use Rattle.tables.specs.Spans.{part, with_fields, MapsFields, within, record_within}
 use Rattle.tables.specs.Types.{fields_of}
 
 -- A part that is cut off at the list's end is the part.
@@ -30,23 +31,26 @@ part_clipped xs k c f e p q = go (dec_le k (length xs))
         ap (take (e - f)) (drop_all f xs (omega arith)) ∙ take_all (e - f) [] (omega arith)
         ∙ sym (ap (take c) (drop_all k xs (omega arith)) ∙ take_all c [] (omega arith))
 
+-- A type whose fields are given another way reads as it did, where each of them does.
+pub with_fields-MapsFields : {F G X : Type 0} (f : F → X) (g : G → X) (R : F → G → Type 0) → ((x : F) (y : G) → R x y → g y ≡ f x) → (t : TermType F) (u : TermType G) → MapsFields R t u → with_fields g u ≡ with_fields f t
+with_fields-MapsFields f g R e (Record x) u (y, r, m) = ap (with_fields g) m ∙ ap Record (e x y r)
+with_fields-MapsFields f g R e t u m = ap (with_fields g) m
+
 module _ {X : Type 0} where
   -- One more element passes the test, and what passed passes a weaker one.
-  pub every_push : (p q : X → Bool) → ((x : X) → p x ≡ true → q x ≡ true) → (xs : List X) (x : X) → every p xs ≡ true → q x ≡ true → every q (xs ++ x ∷ []) ≡ true
-  unfolding every
+  pub every_push : (p q : X → Bool) → ((x : X) → p x ≡ true → q x ≡ true) → (xs : List X) (x : X) → list_all p xs ≡ true → q x ≡ true → list_all q (xs ++ x ∷ []) ≡ true
   every_push p q w [] x h g = and_from (q x) true g refl
   every_push p q w (y ∷ ys) x h g =
-      let (a, b) = and_parts (p y) (every p ys) h in
-      and_from (q y) (every q (ys ++ x ∷ [])) (w y a) (every_push p q w ys x b g)
+      let (a, b) = and_parts (p y) (list_all p ys) h in
+      and_from (q y) (list_all q (ys ++ x ∷ [])) (w y a) (every_push p q w ys x b g)
 
   -- Two functions that agree where the test passes.
-  pub map_every : {Y : Type 0} (p : X → Bool) (f g : X → Y) → ((x : X) → p x ≡ true → f x ≡ g x) → (xs : List X) → every p xs ≡ true → map f xs ≡ map g xs
-  unfolding every
+  pub map_every : {Y : Type 0} (p : X → Bool) (f g : X → Y) → ((x : X) → p x ≡ true → f x ≡ g x) → (xs : List X) → list_all p xs ≡ true → map f xs ≡ map g xs
   map_every p f g e [] h = refl
-  map_every p f g e (x ∷ xs) h = let (a, b) = and_parts (p x) (every p xs) h in ap₂ ◌∷◌ (e x a) (map_every p f g e xs b)
+  map_every p f g e (x ∷ xs) h = let (a, b) = and_parts (p x) (list_all p xs) h in ap₂ ◌∷◌ (e x a) (map_every p f g e xs b)
 
   -- One more element read by f, where those before it read by f as by g.
-  pub map_behind : {Y : Type 0} (p : X → Bool) (f g : X → Y) → ((x : X) → p x ≡ true → f x ≡ g x) → (xs : List X) (x : X) → every p xs ≡ true → map f (xs ++ x ∷ []) ≡ map g xs ++ f x ∷ []
+  pub map_behind : {Y : Type 0} (p : X → Bool) (f g : X → Y) → ((x : X) → p x ≡ true → f x ≡ g x) → (xs : List X) (x : X) → list_all p xs ≡ true → map f (xs ++ x ∷ []) ≡ map g xs ++ f x ∷ []
   map_behind p f g e xs x h = map_push f xs x ∙ ap (λ l. l ++ f x ∷ []) (map_every p f g e xs h)
 
 -- What is put behind changes no part that lay within the list.
@@ -64,86 +68,49 @@ pub within_more : (m n : ℕ) → m ≤ n → (s : Span) → within m s ≡ true
 within_more m n l s h = let g = leb-true (s.first + s.count) m h in le-leb (s.first + s.count) n (omega arith)
 
 pub record_more : (m n : ℕ) → m ≤ n → (t : TermType Span) → record_within m t ≡ true → record_within n t ≡ true
-record_more m n l BoolT h = refl
-record_more m n l Long h = refl
-record_more m n l String h = refl
-record_more m n l Decimal h = refl
-record_more m n l Datetime h = refl
-record_more m n l Duration h = refl
-record_more m n l (Entity x) h = refl
-record_more m n l (Set x) h = refl
-record_more m n l (Option x) h = refl
 record_more m n l (Record s) h = within_more m n l s h
+record_more m n l t h = refl
 
 pub fields_kept : {X : Type 0} (xs ys : List X) (t : TermType Span) → record_within (length xs) t ≡ true → with_fields (part (xs ++ ys)) t ≡ with_fields (part xs) t
-fields_kept xs ys BoolT h = refl
-fields_kept xs ys Long h = refl
-fields_kept xs ys String h = refl
-fields_kept xs ys Decimal h = refl
-fields_kept xs ys Datetime h = refl
-fields_kept xs ys Duration h = refl
-fields_kept xs ys (Entity x) h = refl
-fields_kept xs ys (Set x) h = refl
-fields_kept xs ys (Option x) h = refl
 fields_kept xs ys (Record s) h = ap Record (part_kept xs ys s h)
+fields_kept xs ys t h = refl
 
 -- A name whose bytes are put behind the others.
-module _ (bs : List ℕ) (ns : List Span) (s : List ℕ) (h : every (within (length bs)) ns ≡ true) where
+module _ (bs : List ℕ) (ns : List Span) (s : List ℕ) (h : list_all (within (length bs)) ns ≡ true) where
   pub names_put : map (part (bs ++ s)) (ns ++ record { first = length bs; count = length s } ∷ []) ≡ map (part bs) ns ++ s ∷ []
   names_put =
       map_behind (within (length bs)) (part (bs ++ s)) (part bs) (λ x g. part_kept bs s x g) ns (record { first = length bs; count = length s }) h
       ∙ ap (λ l. map (part bs) ns ++ l ∷ []) (part_behind bs s)
 
-  pub names_within : every (within (length (bs ++ s))) (ns ++ record { first = length bs; count = length s } ∷ []) ≡ true
+  pub names_within : list_all (within (length (bs ++ s))) (ns ++ record { first = length bs; count = length s } ∷ []) ≡ true
   names_within =
       let n = length-append bs s in
       every_push (within (length bs)) (within (length (bs ++ s))) (within_more (length bs) (length (bs ++ s)) (omega arith))
       ns (record { first = length bs; count = length s }) h (le-leb (length bs + length s) (length (bs ++ s)) (omega arith))
 
--- A record's fields, put behind a list, are read back from it, and lie within it.
-reads_back : {X Y : Type 0} (fs : List X) (f : Y → List X) (t : TermType Y) → with_fields (part (fs ++ fields_of (with_fields f t))) (with_fields (λ _. record { first = length fs; count = length (fields_of (with_fields f t)) }) t) ≡ with_fields f t
-reads_back fs f BoolT = refl
-reads_back fs f Long = refl
-reads_back fs f String = refl
-reads_back fs f Decimal = refl
-reads_back fs f Datetime = refl
-reads_back fs f Duration = refl
-reads_back fs f (Entity x) = refl
-reads_back fs f (Set x) = refl
-reads_back fs f (Option x) = refl
-reads_back fs f (Record y) = ap Record (part_behind fs (f y))
+-- A type whose fields gs are put behind the others, at the span s: the cell u that holds it reads as the type, and lies within the list cells.
+module _ {X Y : Type 0} (fs gs : List X) (f : Y → List X) (R : Y → Span → Type 0) {s : Span} {fs' : List X}
+    (span : s ≡ record { first = length fs; count = length gs }) (lists : fs' ≡ fs ++ gs) (at : (y : Y) (x : Span) → R y x → x ≡ s) where
+  reads_back : (t : TermType Y) (u : TermType Span) → MapsFields R t u → gs ≡ fields_of (with_fields f t) → with_fields (part fs') u ≡ with_fields f t
+  reads_back (Record y) u (x, r, m) g = ap (with_fields (part fs')) m ∙ ap Record (ap₂ part lists (at y x r ∙ span) ∙ part_behind fs gs ∙ g)
+  reads_back t u m g = ap (with_fields (part fs')) m
 
-lies_within : {X Y : Type 0} (fs : List X) (f : Y → List X) (t : TermType Y) → record_within (length (fs ++ fields_of (with_fields f t))) (with_fields (λ _. record { first = length fs; count = length (fields_of (with_fields f t)) }) t) ≡ true
-lies_within fs f BoolT = refl
-lies_within fs f Long = refl
-lies_within fs f String = refl
-lies_within fs f Decimal = refl
-lies_within fs f Datetime = refl
-lies_within fs f Duration = refl
-lies_within fs f (Entity x) = refl
-lies_within fs f (Set x) = refl
-lies_within fs f (Option x) = refl
-lies_within fs f (Record y) = let n = length-append fs (f y) in le-leb (length fs + length (f y)) (length (fs ++ f y)) (omega arith)
+  lies_within : (t : TermType Y) (u : TermType Span) → MapsFields R t u → record_within (length fs') u ≡ true
+  lies_within (Record y) u (x, r, m) =
+      let n = length-append fs gs in
+      ap₂ (λ l c. record_within (length l) c) lists (m ∙ ap Record (at y x r ∙ span)) ∙ le-leb (length fs + length gs) (length (fs ++ gs)) (omega arith)
+  lies_within t u m = ap (record_within (length fs')) m
 
--- A type whose fields gs are put behind the others: where they lie then, and what it reads.
-module _ {X Y : Type 0} (fs : List X) (f : Y → List X) (ts : List (TermType Span)) (t : TermType Y)
-    {a b : ℕ} {gs fs' : List X} {c : TermType Span} {ts' : List (TermType Span)}
-    (h : every (record_within (length fs)) ts ≡ true)
-    (from : a ≡ length fs) (many : b ≡ length gs) (fields : gs ≡ fields_of (with_fields f t))
-    (cell : c ≡ with_fields (λ _. record { first = a; count = b }) t)
-    (lists : fs' ≡ fs ++ gs) (cells : ts' ≡ ts ++ c ∷ []) where
-  behind : c ≡ with_fields (λ _. record { first = length fs; count = length (fields_of (with_fields f t)) }) t
-  behind = cell ∙ ap₂ (λ x y. with_fields (λ _. record { first = x; count = y }) t) from (many ∙ ap length fields)
+  module _ (ts : List (TermType Span)) (h : list_all (record_within (length fs)) ts ≡ true) (t : TermType Y) (u : TermType Span) {ts' : List (TermType Span)}
+      (cell : MapsFields R t u) (cells : ts' ≡ ts ++ u ∷ []) where
+    pub types_put : gs ≡ fields_of (with_fields f t) → map (with_fields (part fs')) ts' ≡ map (with_fields (part fs)) ts ++ with_fields f t ∷ []
+    types_put g =
+        ap (map (with_fields (part fs'))) cells
+        ∙ map_behind (record_within (length fs)) (with_fields (part fs')) (with_fields (part fs)) (λ c k. ap (λ l. with_fields (part l) c) lists ∙ fields_kept fs gs c k) ts u h
+        ∙ ap (λ l. map (with_fields (part fs)) ts ++ l ∷ []) (reads_back t u cell g)
 
-  pub types_put : map (with_fields (part fs')) ts' ≡ map (with_fields (part fs)) ts ++ with_fields f t ∷ []
-  types_put =
-      ap₂ (λ x y. map (with_fields (part x)) y) (lists ∙ ap (λ g. fs ++ g) fields) (cells ∙ ap (λ x. ts ++ x ∷ []) behind)
-      ∙ map_behind (record_within (length fs)) _ (with_fields (part fs)) (λ x g. fields_kept fs (fields_of (with_fields f t)) x g) ts _ h
-      ∙ ap (λ l. map (with_fields (part fs)) ts ++ l ∷ []) (reads_back fs f t)
-
-  pub types_within : every (record_within (length fs')) ts' ≡ true
-  types_within =
-      let n = length-append fs (fields_of (with_fields f t)) in
-      ap₂ (λ x y. every (record_within (length x)) y) (lists ∙ ap (λ g. fs ++ g) fields) (cells ∙ ap (λ x. ts ++ x ∷ []) behind)
-      ∙ every_push (record_within (length fs)) (record_within (length (fs ++ fields_of (with_fields f t)))) (record_more (length fs) (length (fs ++ fields_of (with_fields f t))) (omega arith))
-      ts _ h (lies_within fs f t)
+    pub types_within : list_all (record_within (length fs')) ts' ≡ true
+    types_within =
+        let n = ap length lists ∙ length-append fs gs in
+        ap (list_all (record_within (length fs'))) cells
+        ∙ every_push (record_within (length fs)) (record_within (length fs')) (record_more (length fs) (length fs') (omega arith)) ts u h (lies_within t u cell)

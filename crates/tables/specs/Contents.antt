@@ -1,11 +1,9 @@
 -- What the tables hold, and what reads them.
-use Rattle.std.specs.Prelude.{ℕ, true, false, List, [], ◌∷◌, map, length, vec_items, codes, slice_index_or}
+use Rattle.std.specs.Prelude.{ℕ, true, false, List, [], ◌∷◌, length, codes, slice_index_or}
 use Rattle.tables.specs.declared.capacities.Capacities.{Capacities}
 use Rattle.tables.specs.declared.term.Term.{Term}
 use Rattle.tables.specs.declared.term.Term.TheVariants.{Bool as Truth}
 use Rattle.tables.specs.declared.term_type.TermType.TheVariants.{Bool as BoolT}
-use Rattle.tables.specs.declared.storage.Tables.{Tables}
-use Rattle.tables.specs.Spans.{part, with_fields}
 use Rattle.tables.specs.Types.{Type'}
 
 -- The cells of each table by their numbers. A name is its bytes, and a record type has its fields;
@@ -17,18 +15,6 @@ pub record Contents : Type 0 where
   pub bytes : ℕ
   pub lists : ℕ
   pub capacities : Capacities
-
--- What the tables of the code hold.
-abbrev pub contents : Tables → Contents
-contents t =
-    record {
-      terms = vec_items t.terms;
-      types = map (with_fields (part (vec_items t.fields))) (vec_items t.types);
-      names = map (part (vec_items t.bytes)) (vec_items t.names);
-      bytes = length (vec_items t.bytes);
-      lists = length (vec_items t.fields);
-      capacities = t.capacities;
-    }
 
 -- The name of a number; the empty name past the end.
 abbrev pub name_at : Contents → ℕ → List ℕ

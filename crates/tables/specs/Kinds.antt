@@ -103,15 +103,19 @@ type_kind =
       };
     }
 
--- A step, and what is made of its answer.
+-- What is made of an answer.
 abbrev pub answering : {A B : Type 0} → (A → B) → Result A CompileError → Result B CompileError
 answering f (Ok a) = Ok (f a)
 answering f (Err e) = Err e
 
+-- A step, and what is made of its answer.
+abbrev pub giving : {A B : Type 0} → (A → B) → Step A → Step B
+giving f m w = ((m w).0, answering f (m w).1)
+
 -- Enters a name.
 unfoldable pub enter_name : List ℕ → Step NameId
-enter_name s w = ((enter name_kind s w).0, answering (λ n. record { 0 = n }) (enter name_kind s w).1)
+enter_name s = giving (λ n. record { 0 = n }) (enter name_kind s)
 
 -- Enters a type.
 unfoldable pub enter_type : Type' → Step TypeId
-enter_type t w = ((enter type_kind t w).0, answering (λ n. record { 0 = n }) (enter type_kind t w).1)
+enter_type t = giving (λ n. record { 0 = n }) (enter type_kind t)

@@ -3,6 +3,7 @@ pub mod Spans
 pub mod Names
 pub mod Types
 pub mod Contents
+pub mod Storage
 pub mod Kinds
 pub mod Refusals
 pub mod Opening

@@ -4,9 +4,9 @@ use Rattle.tables.specs.declared.ids.NameId.{NameId}
 use Rattle.tables.specs.declared.ids.TypeId.{TypeId}
 use Rattle.tables.specs.declared.term_type.FieldType.{FieldType}
 use Rattle.tables.specs.declared.term_type.TermType.{TermType}
-use Rattle.tables.specs.declared.term_type.TermType.TheVariants.{Bool as BoolT, Long, String, Decimal, Datetime, Duration, Entity, Set, Option, Record}
+use Rattle.tables.specs.declared.term_type.TermType.TheVariants.{Entity, Set, Option, Record}
 use Rattle.tables.specs.Names.{before}
-use Rattle.tables.specs.Spans.{every}
+use Rattle.std.specs.List.{list_all}
 use Rattle.tables.specs.Types.{Type'}
 use Rattle.tables.specs.Contents.{Contents, name_at, type_at}
 
@@ -20,16 +20,8 @@ is_type w t = nat_lt t.0 (length w.types)
 
 -- The type is an option.
 abbrev pub is_option : {F : Type 0} → TermType F → Bool
-is_option BoolT = false
-is_option Long = false
-is_option String = false
-is_option Decimal = false
-is_option Datetime = false
-is_option Duration = false
-is_option (Entity n) = false
-is_option (Set t) = false
 is_option (Option t) = true
-is_option (Record x) = false
+is_option t = false
 
 -- An entered type that is no option: what a set or an option may be of.
 abbrev pub plain : Contents → TypeId → Bool
@@ -51,13 +43,8 @@ ascending w (f ∷ fs) = ascending_after w f fs
 
 -- The type may be entered.
 abbrev pub fits : Contents → Type' → Bool
-fits w BoolT = true
-fits w Long = true
-fits w String = true
-fits w Decimal = true
-fits w Datetime = true
-fits w Duration = true
 fits w (Entity n) = is_name w n
 fits w (Set t) = plain w t
 fits w (Option t) = plain w t
-fits w (Record fs) = every (field_fits w) fs && ascending w fs
+fits w (Record fs) = list_all (field_fits w) fs && ascending w fs
+fits w t = true

@@ -1,5 +1,5 @@
 -- Where lists lie in the tables that hold them, and what a type reads with its fields in place of their span.
-use Rattle.std.specs.Prelude.{ℕ, ◌+◌, Bool, true, ◌&&◌, List, [], ◌∷◌, take, drop, nat_le}
+use Rattle.std.specs.Prelude.{◌≡◌, ℕ, ◌+◌, Bool, true, List, take, drop, nat_le}
 use Rattle.tables.specs.declared.span.Span.{Span}
 use Rattle.tables.specs.declared.term_type.TermType.{TermType}
 use Rattle.tables.specs.declared.term_type.TermType.TheVariants.{Bool as BoolT, Long, String, Decimal, Datetime, Duration, Entity, Set, Option, Record}
@@ -21,24 +21,24 @@ with_fields f (Set t) = Set t
 with_fields f (Option t) = Option t
 with_fields f (Record x) = Record (f x)
 
+-- The second type is the first with its fields given another way: y for x, by the relation.
+abbrev pub MapsFields : {F G : Type 0} → (F → G → Type 0) → TermType F → TermType G → Type 0
+MapsFields R BoolT u = u ≡ BoolT
+MapsFields R Long u = u ≡ Long
+MapsFields R String u = u ≡ String
+MapsFields R Decimal u = u ≡ Decimal
+MapsFields R Datetime u = u ≡ Datetime
+MapsFields R Duration u = u ≡ Duration
+MapsFields R (Entity n) u = u ≡ Entity n
+MapsFields R (Set t) u = u ≡ Set t
+MapsFields R (Option t) u = u ≡ Option t
+MapsFields {G = G} R (Record x) u = (y : G) × R x y × (u ≡ Record y)
+
 -- The span lies within the first m places.
 abbrev pub within : ℕ → Span → Bool
 within m s = nat_le (s.first + s.count) m
 
 -- A record's fields lie within the first m places.
 abbrev pub record_within : ℕ → TermType Span → Bool
-record_within m BoolT = true
-record_within m Long = true
-record_within m String = true
-record_within m Decimal = true
-record_within m Datetime = true
-record_within m Duration = true
-record_within m (Entity n) = true
-record_within m (Set t) = true
-record_within m (Option t) = true
 record_within m (Record s) = within m s
-
--- Each element passes the test.
-unfoldable pub every : {X : Type 0} → (X → Bool) → List X → Bool
-every p [] = true
-every p (x ∷ xs) = p x && every p xs
+record_within m t = true

@@ -1,6 +1,5 @@
 ghost use Rattle.std.specs.Prelude.{◌≡◌};
-ghost use Rattle.tables.specs.Spans.{with_fields};
-ghost use Rattle.tables.specs.Contents.{contents};
+ghost use Rattle.tables.specs.Types.{type_of};
 ghost use Rattle.tables.specs.Kinds.{Now, enter_name, enter_type};
 
 use crate::hold_names::*;
@@ -11,20 +10,21 @@ use crate::storage::*;
 use crate::structure::*;
 use crate::term_type::*;
 
+// Two calls and not one that is generic: callers would need the trait, and with it what enters behind its back.
 impl Tables {
     // The number of a name, which is entered where it is not held yet.
+    #[tactic(auto, unfolding(crate::specs::Kinds::enter_name, crate::specs::Kinds::enter, crate::specs::Kinds::find))]
     pub fn enter_name(&mut self, bytes: &[u8]) -> Result<NameId, CompileError>
-        ensures { Now (enter_name bytes.now (contents self.old)) result (contents self.new) }
+        ensures { Now (enter_name bytes.now self.old) result self.new }
     {
-        let n = enter(self, &Name { bytes })?;
-        Ok(NameId(n))
+        Ok(NameId(enter(self, &Name { bytes })?))
     }
 
     // The number of a type, which is entered where it is not held yet.
+    #[tactic(auto, unfolding(crate::specs::Kinds::enter_type, crate::specs::Kinds::enter, crate::specs::Kinds::find))]
     pub fn enter_type(&mut self, t: TermType<&[FieldType]>) -> Result<TypeId, CompileError>
-        ensures { Now (enter_type (with_fields (λ x. x.now) t.entry) (contents self.old)) result (contents self.new) }
+        ensures { Now (enter_type (type_of t.entry) self.old) result self.new }
     {
-        let n = enter(self, &t)?;
-        Ok(TypeId(n))
+        Ok(TypeId(enter(self, &t)?))
     }
 }

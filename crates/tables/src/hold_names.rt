@@ -1,9 +1,7 @@
 ghost use Rattle.tables.specs.Kinds.{through, name_kind};
 
-use crate::append::append;
 use crate::ids::*;
 use crate::result::*;
-use crate::span::*;
 use crate::storage::*;
 use crate::structure::*;
 
@@ -17,7 +15,7 @@ impl Structure for Name<'_> {
     ghost kind = { through (λ s. s.bytes.now) name_kind };
 
     fn count(&self, tables: &Tables) -> u16 {
-        tables.names.len() as u16
+        tables.names.len()
     }
 
     fn held(&self, tables: &Tables, n: u16) -> bool {
@@ -25,8 +23,7 @@ impl Structure for Name<'_> {
     }
 
     fn lacking(&self, tables: &Tables) -> Option<Table> {
-        let free = tables.capacities.bytes - tables.bytes.len();
-        if tables.names.len() < tables.capacities.names && self.bytes.len() <= free {
+        if tables.names.free() > 0 && self.bytes.len() <= tables.bytes.free() {
             None
         } else {
             Some(Table::Names)
@@ -34,11 +31,7 @@ impl Structure for Name<'_> {
     }
 
     fn put(&self, tables: &mut Tables) {
-        let span = Span {
-            first: tables.bytes.len() as u16,
-            count: self.bytes.len() as u16,
-        };
-        append(&mut tables.bytes, self.bytes);
-        tables.names.push_reserved(span);
+        let span = tables.bytes.extend(self.bytes);
+        tables.names.push(span);
     }
 }

@@ -1,7 +1,7 @@
 #![tactic(auto)]
 
-mod append;
 pub mod capacities;
+mod cells;
 pub mod enter;
 pub mod fits;
 mod hold_names;
@@ -9,11 +9,9 @@ mod hold_types;
 pub mod ids;
 pub mod numbers;
 pub mod open;
-mod order;
 mod part;
 pub mod reads;
 pub mod result;
-mod same;
 mod span;
 pub mod storage;
 mod structure;

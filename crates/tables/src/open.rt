@@ -1,10 +1,11 @@
 ghost use Rattle.std.specs.Prelude.{◌≡◌, true, MatchResult};
 ghost use Rattle.tables.specs.declared.result.CompileError.TheVariants.{NoMemory};
 ghost use Rattle.tables.specs.Ranges.{in_range};
-ghost use Rattle.tables.specs.Contents.{contents, nameless};
+ghost use Rattle.tables.specs.Contents.{nameless};
 ghost use Rattle.tables.specs.Opening.{Opened};
 
 use crate::capacities::*;
+use crate::cells::*;
 use crate::result::*;
 use crate::storage::*;
 use crate::term::*;
@@ -21,32 +22,30 @@ impl From<AllocError> for CompileError {
 
 // Tables with the constants and their type and no name, and with all the memory that they can ever
 // need.
+#[tactic(auto, using(crate::proofs::Ranges::ranged))]
 fn reserve(heap: Global, capacities: Capacities) -> Result<Tables, CompileError>
     requires { in_range capacities ≡ true }
-    ensures { MatchResult result (λ t. contents t ≡ nameless capacities) (λ e. e ≡ NoMemory) }
+    ensures { MatchResult result (λ t. t ≡ nameless capacities) (λ e. e ≡ NoMemory) }
 {
-    let mut terms = Vec::with_capacity(heap, capacities.terms)?;
-    terms.push_reserved(Term::Bool(false));
-    terms.push_reserved(Term::Bool(true));
-    let mut types = Vec::with_capacity(heap, capacities.types)?;
-    types.push_reserved(TermType::Bool);
-    let names = Vec::with_capacity(heap, capacities.names)?;
-    let bytes = Vec::with_capacity(heap, capacities.bytes)?;
-    let fields = Vec::with_capacity(heap, capacities.lists)?;
+    let mut terms = Cells::open(heap, capacities.terms)?;
+    terms.push(Term::Bool(false));
+    terms.push(Term::Bool(true));
+    let mut types = Cells::open(heap, capacities.types)?;
+    types.push(TermType::Bool);
     Ok(Tables {
         terms,
         types,
-        names,
-        bytes,
-        fields,
-        capacities,
+        names: Cells::open(heap, capacities.names)?,
+        bytes: Cells::open(heap, capacities.bytes)?,
+        fields: Cells::open(heap, capacities.lists)?,
+        rows: capacities.rows,
     })
 }
 
 impl Tables {
     // Tables that hold what every workbench starts with.
     pub fn open(heap: Global, capacities: Capacities) -> Result<Tables, CompileError>
-        ensures { Opened contents capacities result }
+        ensures { Opened capacities result }
     {
         if !capacities.in_range() {
             return Err(CompileError::BadInput);

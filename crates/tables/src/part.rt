@@ -7,7 +7,7 @@ use crate::span::*;
 pub(crate) fn part<T>(items: &[T], span: Span) -> &[T]
     ensures { result.now ≡ part_of items.now span }
 {
-    let first = (span.first as usize).min(items.len());
-    let end = (first + span.count as usize).min(items.len());
+    let first = usize::from(span.first).min(items.len());
+    let end = (first + usize::from(span.count)).min(items.len());
     &items[first..end]
 }

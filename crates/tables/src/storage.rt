@@ -1,27 +1,32 @@
-ghost use Rattle.std.specs.Prelude.{◌≡◌, ◌≤◌, true, length, vec_len, vec_capacity};
-ghost use Rattle.tables.specs.Spans.{every, within as span_within, record_within};
-
-use crate::capacities::*;
+use crate::cells::*;
 use crate::span::*;
 use crate::term::*;
 use crate::term_type::*;
+use std::marker::Model;
 
-// The tables of a workbench. All memory is reserved when they are opened.
+// The tables of a workbench, seen as what they hold. The bytes of names and the fields of types lie in cells that all
+// share, at spans of them, and not in a String or a Vec each: no memory is asked for once the tables are open.
 #[derive(Drop)]
 pub struct Tables {
-    pub(crate) terms: Vec<Term>,
-    pub(crate) types: Vec<TermType<Span>>,
-    pub(crate) names: Vec<Span>,
+    pub(crate) terms: Cells<Term, 4096>,
+    pub(crate) types: Cells<TermType<Span>, 512>,
+    pub(crate) names: Cells<Span, 1024>,
     // The bytes of all names.
-    pub(crate) bytes: Vec<u8>,
+    pub(crate) bytes: Cells<u8, 16384>,
     // The list cells that hold the fields of record types.
-    pub(crate) fields: Vec<FieldType>,
-    pub(crate) capacities: Capacities,
-    ghost terms_fit: { (vec_len terms ≤ capacities.terms) × (capacities.terms ≤ vec_capacity terms) × (capacities.terms ≤ 4096) },
-    ghost types_fit: { (vec_len types ≤ capacities.types) × (capacities.types ≤ vec_capacity types) × (capacities.types ≤ 512) },
-    ghost names_fit: { (vec_len names ≤ capacities.names) × (capacities.names ≤ vec_capacity names) × (capacities.names ≤ 1024) },
-    ghost bytes_fit: { (vec_len bytes ≤ capacities.bytes) × (capacities.bytes ≤ vec_capacity bytes) × (capacities.bytes ≤ 16384) },
-    ghost lists_fit: { (vec_len fields ≤ capacities.lists) × (capacities.lists ≤ vec_capacity fields) × (capacities.lists ≤ 8192) },
-    ghost named: { every (span_within (length bytes.items)) names.items ≡ true },
-    ghost listed: { every (record_within (length fields.items)) types.items ≡ true },
+    pub(crate) fields: Cells<FieldType, 8192>,
+    // How many rows may be declared.
+    pub(crate) rows: usize,
+}
+
+impl Model for Tables {
+    ghost use Rattle.tables.specs.Contents.{Contents};
+
+    ghost Value = { Contents };
+
+    ghost use Rattle.tables.specs.Storage.{contents, SpansLieWithin};
+
+    ghost view = { contents };
+
+    ghost invariant = { SpansLieWithin };
 }

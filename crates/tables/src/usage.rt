@@ -1,5 +1,5 @@
 ghost use Rattle.std.specs.Prelude.{◌≡◌};
-ghost use Rattle.tables.specs.Contents.{contents, in_use};
+ghost use Rattle.tables.specs.Contents.{in_use};
 
 use crate::capacities::*;
 use crate::storage::*;
@@ -7,21 +7,28 @@ use crate::storage::*;
 impl Tables {
     // The capacities that the tables were opened with.
     pub fn capacities(&self) -> Capacities
-        ensures { result ≡ (contents self.now).capacities }
+        ensures { result ≡ self.now.capacities }
     {
-        self.capacities
+        Capacities {
+            terms: self.terms.capacity,
+            types: self.types.capacity,
+            names: self.names.capacity,
+            bytes: self.bytes.capacity,
+            lists: self.fields.capacity,
+            rows: self.rows,
+        }
     }
 
     // How many cells of each table are in use.
     pub fn in_use(&self) -> Capacities
-        ensures { result ≡ in_use (contents self.now) }
+        ensures { result ≡ in_use self.now }
     {
         Capacities {
-            terms: self.terms.len(),
-            types: self.types.len(),
-            names: self.names.len(),
-            bytes: self.bytes.len(),
-            lists: self.fields.len(),
+            terms: self.terms.held.len(),
+            types: self.types.held.len(),
+            names: self.names.held.len(),
+            bytes: self.bytes.held.len(),
+            lists: self.fields.held.len(),
             rows: 0,
         }
     }

@@ -3,17 +3,17 @@ use Rattle.std.proofs.Common.{◌≡◌, ℕ, ◌<◌, Bool, true, false, ◌⊎
 use Rattle.std.proofs.lemmas.List.{append_assoc, get_or_append_left}
 use Rattle.tables.specs.declared.capacities.Capacities.{Capacities}
 use Rattle.tables.specs.declared.result.CompileError.{CompileError}
-use Rattle.tables.specs.declared.result.CompileError.TheVariants.{NoSuchEntityType, NoSuchAttribute, TypeError, UnsupportedFeature, Full, BadInput, TooDeep, NotCovered, NotBoolean, BadRow, NoMemory}
+use Rattle.tables.specs.declared.result.CompileError.TheVariants.{Full}
 use Rattle.tables.specs.declared.term_type.TermType.TheVariants.{Bool as BoolT}
 use Rattle.tables.specs.Types.{Type'}
 use Rattle.tables.specs.Ranges.{Smaller}
 use Rattle.tables.specs.Contents.{Contents}
-use Rattle.tables.specs.Kinds.{Step, answering}
+use Rattle.tables.specs.Kinds.{Step, answering, giving}
 use Rattle.laws.specs.Sound.{Sound}
 use Rattle.laws.specs.Lawful.{is_full, recap, Later, Lawful, NameStands, TypeStands}
 use Rattle.laws.proofs.Entry.{Later-refl}
 use Rattle.workbench.specs.declared.calls.Reply.{Reply}
-use Rattle.workbench.specs.Runs.{Answer, replying, calls}
+use Rattle.workbench.specs.Runs.{Call', Answer, step, calls}
 use Rattle.workbench.specs.Law.{Alike}
 
 pub Later-trans : {u v w : Contents} → Later u v → Later v w → Later u w
@@ -42,40 +42,19 @@ types_later {w} l t n h = at_later BoolT w.types l.more_types l.types n h
 -- What is made of an answer.
 answered_err : {A : Type 0} (f : A → Reply) (r : Result A CompileError) (e : CompileError) → answering f r ≡ Err e → (d : CompileError) × (r ≡ Err d)
 answered_err f (Err d) e p = (d, refl)
-answered_err f (Ok a) e p = absurd (subst is_err (sym p) tt)
-  where
-    is_err : Result Reply CompileError → Type 0
-    is_err (Ok b) = ⊥
-    is_err (Err c) = Unit {0}
+answered_err f (Ok a) e p = absurd (cc)
 
 answered_ok : {A : Type 0} (f : A → Reply) (r : Result A CompileError) (b : Reply) → answering f r ≡ Ok b → (a : A) × (r ≡ Ok a) × (f a ≡ b)
-answered_ok f (Ok a) b p = (a, refl, ap (ok_or (f a)) p)
-  where
-    ok_or : Reply → Result Reply CompileError → Reply
-    ok_or d (Ok x) = x
-    ok_or d (Err c) = d
-answered_ok f (Err d) b p = absurd (subst is_ok (sym p) tt)
-  where
-    is_ok : Result Reply CompileError → Type 0
-    is_ok (Ok x) = Unit {0}
-    is_ok (Err c) = ⊥
+answered_ok f (Ok a) b p = (a, refl, cc)
+answered_ok f (Err d) b p = absurd (cc)
 
 answered_full : {A : Type 0} (f : A → Reply) (r : Result A CompileError) → is_full (answering f r) ≡ is_full r
 answered_full f (Ok a) = refl
-answered_full f (Err (NoSuchEntityType n)) = refl
-answered_full f (Err (NoSuchAttribute n)) = refl
-answered_full f (Err TypeError) = refl
-answered_full f (Err UnsupportedFeature) = refl
 answered_full f (Err (Full t)) = refl
-answered_full f (Err BadInput) = refl
-answered_full f (Err TooDeep) = refl
-answered_full f (Err NotCovered) = refl
-answered_full f (Err NotBoolean) = refl
-answered_full f (Err BadRow) = refl
-answered_full f (Err NoMemory) = refl
+answered_full f (Err e) = refl
 
-pub replying_lawful : {A : Type 0} (f : A → Reply) (m : Step A) (Q : A → Contents → Type 0) → Lawful m Q → Lawful (replying f m) (λ r w. (a : A) × (f a ≡ r) × Q a w)
-replying_lawful f m Q law =
+pub giving_lawful : {A : Type 0} (f : A → Reply) (m : Step A) (Q : A → Contents → Type 0) → Lawful m Q → Lawful (giving f m) (λ r w. (a : A) × (f a ≡ r) × Q a w)
+giving_lawful f m Q law =
     record {
       refused = λ w e p. let (d, q) = answered_err f (m w).1 e p in law.refused w d q;
       later = law.later;
@@ -84,36 +63,36 @@ replying_lawful f m Q law =
       gives = λ w b p. let (a, q, e) = answered_ok f (m w).1 b p in (a, e, law.gives w a q);
     }
 
-module _ {C : Type 0} (f : C → Step Reply) (Q : C → Reply → Contents → Type 0) (law : (c : C) → Lawful (f c) (Q c)) where
-  pub calls_append : (bs cs : List C) (w : Contents) → (calls f (bs ++ cs) w).0 ≡ (calls f cs (calls f bs w).0).0
+module _ (Q : Call' → Reply → Contents → Type 0) (law : (c : Call') → Lawful (step c) (Q c)) where
+  pub calls_append : (bs cs : List Call') (w : Contents) → (calls (bs ++ cs) w).0 ≡ (calls cs (calls bs w).0).0
   unfolding calls
   calls_append [] cs w = refl
-  calls_append (b ∷ bs) cs w = calls_append bs cs (f b w).0
+  calls_append (b ∷ bs) cs w = calls_append bs cs (step b w).0
 
-  pub calls_later : (cs : List C) (w : Contents) → Later w (calls f cs w).0
+  pub calls_later : (cs : List Call') (w : Contents) → Later w (calls cs w).0
   unfolding calls
   calls_later [] w = Later-refl w
-  calls_later (c ∷ cs) w = Later-trans ((law c).later w) (calls_later cs (f c w).0)
+  calls_later (c ∷ cs) w = Later-trans ((law c).later w) (calls_later cs (step c w).0)
 
-  pub calls_sound : (cs : List C) (w : Contents) → Sound w → Sound (calls f cs w).0
+  pub calls_sound : (cs : List Call') (w : Contents) → Sound w → Sound (calls cs w).0
   unfolding calls
   calls_sound [] w s = s
-  calls_sound (c ∷ cs) w s = calls_sound cs (f c w).0 ((law c).sound w s)
+  calls_sound (c ∷ cs) w s = calls_sound cs (step c w).0 ((law c).sound w s)
 
   -- A larger workbench answers a list alike, and then what comes after it, if nothing was full till then.
-  pub calls_alike : (cs : List C) (w : Contents) (l : Capacities) → Smaller w.capacities l → (xs ys : List Answer)
-      → ((calls f cs (recap l w)).0 ≡ recap l (calls f cs w).0 → Alike xs ys)
-      → Alike ((calls f cs w).1 ++ xs) ((calls f cs (recap l w)).1 ++ ys)
+  pub calls_alike : (cs : List Call') (w : Contents) (l : Capacities) → Smaller w.capacities l → (xs ys : List Answer)
+      → ((calls cs (recap l w)).0 ≡ recap l (calls cs w).0 → Alike xs ys)
+      → Alike ((calls cs w).1 ++ xs) ((calls cs (recap l w)).1 ++ ys)
   unfolding calls Alike
   calls_alike [] w l s xs ys h = h refl
-  calls_alike (c ∷ cs) w l s xs ys h = go (is_full (f c w).1) refl (calls_alike cs (f c w).0 l (subst (λ k. Smaller k l) (sym ((law c).later w).capacities) s) xs ys)
+  calls_alike (c ∷ cs) w l s xs ys h = go (is_full (step c w).1) refl (calls_alike cs (step c w).0 l (subst (λ k. Smaller k l) (sym ((law c).later w).capacities) s) xs ys)
     where
-      go : (b : Bool) → is_full (f c w).1 ≡ b
-          → (((calls f cs (recap l (f c w).0)).0 ≡ recap l (calls f cs (f c w).0).0 → Alike xs ys)
-          → Alike ((calls f cs (f c w).0).1 ++ xs) ((calls f cs (recap l (f c w).0)).1 ++ ys))
-          → (is_full (f c w).1 ≡ true) ⊎ (((f c w).1 ≡ (f c (recap l w)).1) × Alike ((calls f cs (f c w).0).1 ++ xs) ((calls f cs (f c (recap l w)).0).1 ++ ys))
+      go : (b : Bool) → is_full (step c w).1 ≡ b
+          → (((calls cs (recap l (step c w).0)).0 ≡ recap l (calls cs (step c w).0).0 → Alike xs ys)
+          → Alike ((calls cs (step c w).0).1 ++ xs) ((calls cs (recap l (step c w).0)).1 ++ ys))
+          → (is_full (step c w).1 ≡ true) ⊎ (((step c w).1 ≡ (step c (recap l w)).1) × Alike ((calls cs (step c w).0).1 ++ xs) ((calls cs (step c (recap l w)).0).1 ++ ys))
       go true q ih = inl q
       go false q ih =
           let e = (law c).roomy w l s q in
-          let v : (f c (recap l w)).0 ≡ recap l (f c w).0 = ap (λ o. o.0) e in
-          inr (sym (ap (λ o. o.1) e), subst (λ u. Alike ((calls f cs (f c w).0).1 ++ xs) ((calls f cs u).1 ++ ys)) (sym v) (ih (λ r. h (ap (λ u. (calls f cs u).0) v ∙ r))))
+          let v : (step c (recap l w)).0 ≡ recap l (step c w).0 = ap (λ o. o.0) e in
+          inr (sym (ap (λ o. o.1) e), subst (λ u. Alike ((calls cs (step c w).0).1 ++ xs) ((calls cs u).1 ++ ys)) (sym v) (ih (λ r. h (ap (λ u. (calls cs u).0) v ∙ r))))

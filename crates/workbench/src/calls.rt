@@ -1,16 +1,9 @@
 use tables::ids::*;
 use tables::term_type::*;
 
-// A call on a draft.
+// A call on a workbench.
 #[derive(Clone, Copy)]
-pub enum DraftCall<'a> {
-    Name(&'a [u8]),
-    Type(TermType<&'a [FieldType]>),
-}
-
-// A call on a sealed workbench.
-#[derive(Clone, Copy)]
-pub enum SealedCall<'a> {
+pub enum Call<'a> {
     Name(&'a [u8]),
     Type(TermType<&'a [FieldType]>),
 }

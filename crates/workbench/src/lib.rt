@@ -1,8 +1,5 @@
 #![tactic(auto)]
 
+pub mod bench;
 pub mod calls;
-pub mod draft;
-mod enter;
-pub mod on_draft;
-pub mod on_sealed;
 pub mod run;

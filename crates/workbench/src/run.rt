@@ -1,11 +1,10 @@
 ghost use Rattle.std.specs.Prelude.{◌≡◌, ◌+◌, ◌≤◌, ◌++◌, map, length, vec_len, vec_capacity};
-ghost use Rattle.tables.specs.Contents.{contents};
-ghost use Rattle.workbench.specs.Runs.{draft_call, sealed_call, called_on_draft, called_on_sealed, calls as called};
+ghost use Rattle.workbench.specs.Runs.{call_of, calls as called};
 ghost use Rattle.workbench.specs.Ran.{Ran};
 ghost use Rattle.workbench.specs.Law.{LawOfRuns};
 
+use crate::bench::*;
 use crate::calls::*;
-use crate::draft::*;
 use std::alloc::Global;
 use tables::capacities::*;
 use tables::result::*;
@@ -18,37 +17,19 @@ pub struct RunResult {
 }
 
 // Makes the calls in order, and puts their answers behind.
-fn draft_calls(
-    draft: &mut Draft,
-    calls: &[DraftCall],
+fn make_calls<S>(
+    workbench: &mut Workbench<S>,
+    calls: &[Call],
     answers: &mut Vec<Result<Reply, CompileError>>,
 )
     requires { vec_len answers.old + length calls.now ≤ vec_capacity answers.old }
-    ensures tables { contents draft.new.tables ≡ (called draft_call (map called_on_draft calls.now) (contents draft.old.tables)).0 }
-    ensures items { answers.new.items ≡ answers.old.items ++ (called draft_call (map called_on_draft calls.now) (contents draft.old.tables)).1 }
+    ensures tables { workbench.new ≡ (called (map call_of calls.now) workbench.old).0 }
+    ensures items { answers.new.items ≡ answers.old.items ++ (called (map call_of calls.now) workbench.old).1 }
     ensures len { vec_len answers.new ≡ vec_len answers.old + length calls.now }
     ensures capacity { vec_capacity answers.new ≡ vec_capacity answers.old }
 {
-    for i in 0..calls.len() {
-        let answer = draft.call(calls[i]);
-        answers.push_reserved(answer);
-    }
-}
-
-// Makes the calls in order, and puts their answers behind.
-fn sealed_calls(
-    sealed: &mut Sealed,
-    calls: &[SealedCall],
-    answers: &mut Vec<Result<Reply, CompileError>>,
-)
-    requires { vec_len answers.old + length calls.now ≤ vec_capacity answers.old }
-    ensures tables { contents sealed.new.tables ≡ (called sealed_call (map called_on_sealed calls.now) (contents sealed.old.tables)).0 }
-    ensures items { answers.new.items ≡ answers.old.items ++ (called sealed_call (map called_on_sealed calls.now) (contents sealed.old.tables)).1 }
-    ensures len { vec_len answers.new ≡ vec_len answers.old + length calls.now }
-    ensures capacity { vec_capacity answers.new ≡ vec_capacity answers.old }
-{
-    for i in 0..calls.len() {
-        let answer = sealed.call(calls[i]);
+    for call in calls {
+        let answer = workbench.call(*call);
         answers.push_reserved(answer);
     }
 }
@@ -57,16 +38,16 @@ fn sealed_calls(
 pub fn run(
     heap: Global,
     capacities: Capacities,
-    on_draft: &[DraftCall],
-    on_sealed: &[SealedCall],
+    on_draft: &[Call],
+    on_sealed: &[Call],
 ) -> Result<RunResult, CompileError>
-    ensures answers { Ran capacities (map called_on_draft on_draft.now) (map called_on_sealed on_sealed.now) result }
+    ensures answers { Ran capacities (map call_of on_draft.now) (map call_of on_sealed.now) result }
     ensures law { LawOfRuns }
 {
     let mut draft = Draft::open(heap, capacities)?;
     let mut answers = Vec::with_capacity(heap, on_draft.len() + on_sealed.len())?;
-    draft_calls(&mut draft, on_draft, &mut answers);
+    make_calls(&mut draft, on_draft, &mut answers);
     let mut workbench = draft.seal();
-    sealed_calls(&mut workbench, on_sealed, &mut answers);
+    make_calls(&mut workbench, on_sealed, &mut answers);
     Ok(RunResult { answers, workbench })
 }

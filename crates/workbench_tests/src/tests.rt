@@ -4,27 +4,9 @@ use tables::capacities::*;
 use tables::ids::*;
 use tables::result::*;
 use tables::term_type::*;
+use workbench::bench::*;
 use workbench::calls::*;
-use workbench::draft::*;
 use workbench::run::run;
-
-const LARGEST: Capacities = Capacities {
-    terms: 4096,
-    types: 512,
-    names: 1024,
-    bytes: 16384,
-    lists: 8192,
-    rows: 200,
-};
-
-const SMALLEST: Capacities = Capacities {
-    terms: 2,
-    types: 1,
-    names: 2,
-    bytes: 9,
-    lists: 0,
-    rows: 0,
-};
 
 fn refusal(heap: Global, capacities: Capacities) -> Option<CompileError> {
     match Draft::open(heap, capacities) {
@@ -36,48 +18,48 @@ fn refusal(heap: Global, capacities: Capacities) -> Option<CompileError> {
 #[test]
 fn capacities_at_their_ends(rt: HostRuntime) {
     let heap = rt.alloc();
-    assert_eq!(rt; refusal(heap, SMALLEST), None);
-    assert_eq!(rt; refusal(heap, LARGEST), None);
+    assert_eq!(rt; refusal(heap, Capacities::SMALLEST), None);
+    assert_eq!(rt; refusal(heap, Capacities::LARGEST), None);
     let past = [
         Capacities {
             terms: 1,
-            ..SMALLEST
+            ..Capacities::SMALLEST
         },
         Capacities {
             terms: 4097,
-            ..LARGEST
+            ..Capacities::LARGEST
         },
         Capacities {
             types: 0,
-            ..SMALLEST
+            ..Capacities::SMALLEST
         },
         Capacities {
             types: 513,
-            ..LARGEST
+            ..Capacities::LARGEST
         },
         Capacities {
             names: 1,
-            ..SMALLEST
+            ..Capacities::SMALLEST
         },
         Capacities {
             names: 1025,
-            ..LARGEST
+            ..Capacities::LARGEST
         },
         Capacities {
             bytes: 8,
-            ..SMALLEST
+            ..Capacities::SMALLEST
         },
         Capacities {
             bytes: 16385,
-            ..LARGEST
+            ..Capacities::LARGEST
         },
         Capacities {
             lists: 8193,
-            ..LARGEST
+            ..Capacities::LARGEST
         },
         Capacities {
             rows: 201,
-            ..LARGEST
+            ..Capacities::LARGEST
         },
     ];
     for capacities in past {
@@ -87,7 +69,7 @@ fn capacities_at_their_ends(rt: HostRuntime) {
 
 #[test]
 fn names_of_each_length(rt: HostRuntime) -> Result<(), Fail> {
-    let mut draft = Draft::open(rt.alloc(), LARGEST)?;
+    let mut draft = Draft::open(rt.alloc(), Capacities::LARGEST)?;
     let long = [b'x'; 256];
     assert_eq!(rt; draft.name(b""), Ok(NameId(2)));
     assert_eq!(rt; draft.name(&long[0..255]), Ok(NameId(3)));
@@ -108,32 +90,15 @@ fn names_of_each_length(rt: HostRuntime) -> Result<(), Fail> {
     Ok(())
 }
 
-// Types without fields, in whichever way fields are given.
-fn long_type<F>() -> TermType<F> {
-    TermType::Long
-}
-
-fn entity<F>(name: NameId) -> TermType<F> {
-    TermType::Entity(name)
-}
-
-fn set_of<F>(part: TypeId) -> TermType<F> {
-    TermType::Set(part)
-}
-
-fn option_of<F>(part: TypeId) -> TermType<F> {
-    TermType::Option(part)
-}
-
 fn record(sealed: &mut Sealed, fields: &[FieldType]) -> Result<TypeId, CompileError> {
     sealed.term_type(TermType::Record(fields))
 }
 
 #[test]
 fn types_are_held_once(rt: HostRuntime) -> Result<(), Fail> {
-    let mut sealed = Draft::open(rt.alloc(), LARGEST)?.seal();
-    let long = sealed.term_type(long_type())?;
-    let option = sealed.term_type(option_of(long))?;
+    let mut sealed = Draft::open(rt.alloc(), Capacities::LARGEST)?.seal();
+    let long = sealed.term_type(TermType::Long)?;
+    let option = sealed.term_type(TermType::Option(long))?;
     let first = FieldType {
         name: NameId(0),
         ty: option,
@@ -160,25 +125,25 @@ fn types_are_held_once(rt: HostRuntime) -> Result<(), Fail> {
 
 #[test]
 fn parts_that_may_not_stand(rt: HostRuntime) -> Result<(), Fail> {
-    let mut draft = Draft::open(rt.alloc(), LARGEST)?;
-    let option = draft.term_type(option_of(TypeId(0)))?;
+    let mut draft = Draft::open(rt.alloc(), Capacities::LARGEST)?;
+    let option = draft.term_type(TermType::Option(TypeId(0)))?;
     assert_eq!(rt;
-        draft.term_type(set_of(option)),
+        draft.term_type(TermType::Set(option)),
         Err(CompileError::BadInput)
     );
     assert_eq!(rt;
-        draft.term_type(option_of(option)),
+        draft.term_type(TermType::Option(option)),
         Err(CompileError::BadInput)
     );
     assert_eq!(rt;
-        draft.term_type(set_of(TypeId(2))),
+        draft.term_type(TermType::Set(TypeId(2))),
         Err(CompileError::BadInput)
     );
     assert_eq!(rt;
-        draft.term_type(entity(NameId(2))),
+        draft.term_type(TermType::Entity(NameId(2))),
         Err(CompileError::BadInput)
     );
-    assert_eq!(rt; draft.term_type(entity(NameId(1))), Ok(TypeId(2)));
+    assert_eq!(rt; draft.term_type(TermType::Entity(NameId(1))), Ok(TypeId(2)));
     Ok(())
 }
 
@@ -189,7 +154,7 @@ fn tables_exactly_full(rt: HostRuntime) -> Result<(), Fail> {
         names: 3,
         bytes: 10,
         lists: 1,
-        ..SMALLEST
+        ..Capacities::SMALLEST
     };
     let mut draft = Draft::open(rt.alloc(), capacities)?;
     let fields = [
@@ -236,14 +201,14 @@ fn tables_exactly_full(rt: HostRuntime) -> Result<(), Fail> {
 #[test]
 fn a_run_answers_every_call(rt: HostRuntime) -> Result<(), Fail> {
     let on_draft = [
-        DraftCall::Name(b"Judgment"),
-        DraftCall::Type(TermType::Entity(NameId(2))),
+        Call::Name(b"Judgment"),
+        Call::Type(TermType::Entity(NameId(2))),
     ];
     let on_sealed = [
-        SealedCall::Type(TermType::Set(TypeId(1))),
-        SealedCall::Type(TermType::Set(TypeId(9))),
+        Call::Type(TermType::Set(TypeId(1))),
+        Call::Type(TermType::Set(TypeId(9))),
     ];
-    let result = run(rt.alloc(), LARGEST, &on_draft, &on_sealed)?;
+    let result = run(rt.alloc(), Capacities::LARGEST, &on_draft, &on_sealed)?;
     let answers = result.answers.as_slice();
     assert_eq!(rt; answers.first().copied(), Some(Ok(Reply::Name(NameId(2)))));
     assert_eq!(rt; answers.get(1).copied(), Some(Ok(Reply::Type(TypeId(1)))));

@@ -1,5 +1,5 @@
 use Rattle.std.proofs.Common.{map, rules}
-use Rattle.workbench.specs.Runs.{called_on_draft, called_on_sealed}
+use Rattle.workbench.specs.Runs.{call_of}
 use Rattle.workbench.proofs.LawOfRuns.{law_of_runs}
 use Rattle.workbench.proofs.Turns.{together}
 use Rattle.workbench.proofs.run.run.Goals as goal
@@ -13,7 +13,7 @@ returns-in_err-answers c = record { answers = search rules; law = law_of_runs }
 pub returns : goal.returns
 returns c =
     let o = c.in_ok-draft.ensures in
-    let t = together c.args.capacities (map called_on_draft c.args.on_draft.now) (map called_on_sealed c.args.on_sealed.now)
-    o.1 c.in_ok-answers.ensures.items c.draft_calls.ensures.tables c.draft_calls.ensures.items
-    c.seal-workbench.ensures c.sealed_calls.ensures.tables c.sealed_calls.ensures.items in
-    record { answers = (o.0, t.0, t.1); law = law_of_runs }
+    let t = together c.args.capacities (map call_of c.args.on_draft.now) (map call_of c.args.on_sealed.now)
+    o.1 c.in_ok-answers.ensures.items c.make_calls.ensures.tables c.make_calls.ensures.items
+    c.seal-workbench.ensures c.make_calls-2.ensures.tables c.make_calls-2.ensures.items in
+    record { answers = (o.0, t); law = law_of_runs }

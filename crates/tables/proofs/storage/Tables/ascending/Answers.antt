@@ -1,19 +1,12 @@
-use Rattle.std.proofs.Common.{sym, ◌∙◌, ap₂}
-use Rattle.tables.specs.Contents.{contents}
+use Rattle.std.proofs.Common.{rules}
+use Rattle.std.proofs.lemmas.Fn.{always_returns_same}
+use Rattle.tables.specs.Contents.{name_at}
 use Rattle.tables.specs.Names.{before}
-use Rattle.tables.proofs.Fields.{none}
-use Rattle.tables.proofs.Turns.{ascending_turn, ascending_end}
+use Rattle.tables.proofs.Ascending.{before-slice_cmp, ascending-adjacent}
 use Rattle.tables.proofs.storage.Tables.ascending.Goals as goal
 
-pub returns-then-not-before : goal.returns-then-not-before
-returns-then-not-before c =
-    let e = c.if-not-before.ensures ∙ ap₂ before c.name.ensures c.name-in-loop-i.ensures in
-    sym (ascending_turn (contents c.args.self.now) c.loop-i.last c.args.fields.now c.loop-i.i none c.loop-i-test.true e) ∙ c.loop-i.invariant
-
-pub loop-i-preserved : goal.loop-i-preserved
-loop-i-preserved c =
-    let e = c.if-not-before.ensures ∙ ap₂ before c.name.ensures c.name-in-loop-i.ensures in
-    sym (ascending_turn (contents c.args.self.now) c.loop-i.last c.args.fields.now c.loop-i.i none c.loop-i-test.true e) ∙ c.loop-i.invariant
-
 pub returns : goal.returns
-returns c = sym (ascending_end (contents c.args.self.now) c.loop-i.last c.args.fields.now c.loop-i.i none c.loop-i-test.false) ∙ c.loop-i.invariant
+returns c =
+    let w = c.args.self.now in
+    ascending-adjacent w c.args.fields.now c.is_sorted_by.result
+    (c.is_sorted_by.ensures.cases (λ f g. before (name_at w f.name.0) (name_at w g.name.0)) (always_returns_same _ _ _ (λ a r f k. search (rules, before-slice_cmp))))
