@@ -1,5 +1,4 @@
 pub mod Spans
-pub mod Mapped
 pub mod Search
 pub mod Fields
 pub mod Room

@@ -1,35 +1,13 @@
 -- Lists in the tables that hold them.
-use Rattle.std.proofs.Common.{◌≡◌, ℕ, ◌+◌, ◌-◌, ◌≤◌, min, Bool, true, List, [], ◌∷◌, ◌++◌, map, length, take, drop, sym, refl, ap, ◌∙◌, ap₂, arith, length-append, length-drop, le-leb, leb-true}
-use native.Mathlib.Decide.{dec_le}
+use Rattle.std.proofs.Common.{◌≡◌, ℕ, ◌+◌, ◌≤◌, Bool, true, List, [], ◌∷◌, ◌++◌, map, length, take, drop, refl, ap, ◌∙◌, ap₂, arith, length-append, length-drop, le-leb, leb-true}
 use Rattle.std.proofs.lemmas.Bool.{and_parts, and_from}
-use Rattle.std.proofs.lemmas.List.{take_all, drop_all, take-append-le, drop-append-le, drop_at, map_push}
+use Rattle.std.proofs.lemmas.List.{take_all, take-append-le, drop-append-le, drop_at, map_push}
 use Rattle.tables.specs.declared.span.Span.{Span}
 use Rattle.tables.specs.declared.term_type.TermType.{TermType}
 use Rattle.tables.specs.declared.term_type.TermType.TheVariants.{Record}
 use Rattle.std.specs.List.{list_all}
 use Rattle.tables.specs.Spans.{part, with_fields, MapsFields, within, record_within}
 use Rattle.tables.specs.Types.{fields_of}
-
--- A part that is cut off at the list's end is the part.
-pub part_clipped : {X : Type 0} (xs : List X) (k c f e : ℕ) → f ≡ min k (length xs) → e ≡ min (f + c) (length xs) → take (e - f) (drop f xs) ≡ take c (drop k xs)
-part_clipped xs k c f e p q = go (dec_le k (length xs))
-  where
-    short : (n : ℕ) → length (drop k xs) ≤ n → take n (drop k xs) ≡ drop k xs
-    short n h = take_all n (drop k xs) h
-
-    inside : Dec (k + c ≤ length xs) → k ≤ length xs → take (e - f) (drop f xs) ≡ take c (drop k xs)
-    inside (yes g) h = let a : e - f ≡ c = omega arith in let b : f ≡ k = omega arith in ap₂ (λ n m. take n (drop m xs)) a b
-    inside (no g) h =
-        let b : f ≡ k = omega arith in
-        ap (λ m. take (e - f) (drop m xs)) b
-        ∙ short (e - f) (simp length-drop (omega arith))
-        ∙ sym (short c (simp length-drop (omega arith)))
-
-    go : Dec (k ≤ length xs) → take (e - f) (drop f xs) ≡ take c (drop k xs)
-    go (yes h) = inside (dec_le (k + c) (length xs)) h
-    go (no h) =
-        ap (take (e - f)) (drop_all f xs (omega arith)) ∙ take_all (e - f) [] (omega arith)
-        ∙ sym (ap (take c) (drop_all k xs (omega arith)) ∙ take_all c [] (omega arith))
 
 -- A type whose fields are given another way reads as it did, where each of them does.
 pub with_fields-MapsFields : {F G X : Type 0} (f : F → X) (g : G → X) (R : F → G → Type 0) → ((x : F) (y : G) → R x y → g y ≡ f x) → (t : TermType F) (u : TermType G) → MapsFields R t u → with_fields g u ≡ with_fields f t
