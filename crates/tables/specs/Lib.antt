@@ -8,3 +8,4 @@ pub mod Refusals
 pub mod Opening
 pub mod Shapes
 pub mod Calls
+pub mod Words
