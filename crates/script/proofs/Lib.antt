@@ -1,4 +1,3 @@
 mod Blanks
 mod Digits
 mod Replies
-mod Spelling
