@@ -31,32 +31,29 @@ impl Shown<'_, TypeId> {
             TermType::Datetime => write!(f, "datetime"),
             TermType::Duration => write!(f, "duration"),
             TermType::Entity(name) => write!(f, "(entity {})", Quoted(self.tables.name(name))),
-            TermType::Set(part) => {
-                write!(f, "(set ")?;
-                self.write_part(f, part)?;
-                write!(f, ")")
-            }
-            TermType::Option(part) => {
-                write!(f, "(option ")?;
-                self.write_part(f, part)?;
-                write!(f, ")")
-            }
+            TermType::Set(part) => self.write_part(f, "(set ", part),
+            TermType::Option(part) => self.write_part(f, "(option ", part),
             TermType::Record(fields) => {
                 write!(f, "(record")?;
                 for field in fields {
-                    write!(f, " ({} ", Quoted(self.tables.name(field.name)))?;
-                    self.write_part(f, field.ty)?;
-                    write!(f, ")")?;
+                    write!(f, " ({}", Quoted(self.tables.name(field.name)))?;
+                    self.write_part(f, " ", field.ty)?;
                 }
                 write!(f, ")")
             }
         }
     }
 
-    // A part has been entered before its whole, so it has a smaller number; the test is how the
-    // proof knows it.
+    // Writes the rest of a list whose last item is a part of this type. A part has been entered
+    // before its whole, so it has a smaller number; the test is how the proof knows it.
     #[cycle(types)]
-    fn write_part<W: fmt::Write>(self, f: &mut fmt::Formatter<W>, part: TypeId) -> fmt::Result {
+    fn write_part<W: fmt::Write>(
+        self,
+        f: &mut fmt::Formatter<W>,
+        before: &str,
+        part: TypeId,
+    ) -> fmt::Result {
+        write!(f, "{before}")?;
         if part.0 < self.value.0 {
             let part = Shown {
                 tables: self.tables,
@@ -64,6 +61,6 @@ impl Shown<'_, TypeId> {
             };
             part.write(f)?;
         }
-        Ok(())
+        write!(f, ")")
     }
 }
