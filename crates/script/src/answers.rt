@@ -1,4 +1,8 @@
 // Answers, and how they are written.
+ghost use Rattle.std.specs.Prelude.{Some};
+ghost use Rattle.tables.specs.Contents.{contents};
+ghost use Rattle.script.specs.Print.{counts_text, answer_text, refusal_text};
+
 use crate::print_types::Shown;
 use crate::printer::Quoted;
 use std::fmt;
@@ -16,6 +20,8 @@ pub enum Answer {
 }
 
 impl fmt::Display for Shown<'_, Answer> {
+    ghost output = { λ a. answer_text (contents a.tables.now) a.value };
+
     fn fmt<W: fmt::Write>(&self, f: &mut fmt::Formatter<W>) -> fmt::Result {
         let tables = self.tables;
         match self.value {
@@ -32,6 +38,8 @@ impl fmt::Display for Shown<'_, Answer> {
 struct Cells(Capacities);
 
 impl fmt::Display for Cells {
+    ghost output = { λ c. Some (counts_text c.0) };
+
     fn fmt<W: fmt::Write>(&self, f: &mut fmt::Formatter<W>) -> fmt::Result {
         let Capacities {
             terms,
@@ -41,13 +49,18 @@ impl fmt::Display for Cells {
             lists,
             rows,
         } = self.0;
-        write!(f, "(terms {terms}) (types {types}) (names {names}) ")?;
-        write!(f, "(bytes {bytes}) (lists {lists}) (rows {rows})")
+        write!(
+            f,
+            "(terms {terms}) (types {types}) (names {names}) \
+             (bytes {bytes}) (lists {lists}) (rows {rows})"
+        )
     }
 }
 
 // A refusal, with the name or the table that it speaks of.
 impl fmt::Display for Shown<'_, CompileError> {
+    ghost output = { λ e. Some (refusal_text (contents e.tables.now) e.value) };
+
     fn fmt<W: fmt::Write>(&self, f: &mut fmt::Formatter<W>) -> fmt::Result {
         let error = self.value;
         match error {
