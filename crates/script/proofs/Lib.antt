@@ -1,3 +1,4 @@
 mod Blanks
 mod Digits
 mod Replies
+mod Types

@@ -1,7 +1,7 @@
 // Answers, and how they are written.
 ghost use Rattle.std.specs.Prelude.{Some};
 ghost use Rattle.tables.specs.Contents.{contents};
-ghost use Rattle.script.specs.Print.{counts_text, answer_text, refusal_text};
+ghost use Rattle.script.specs.AnswerText.{counts_text, answer_text, refusal_text};
 
 use crate::print_types::Shown;
 use crate::printer::Quoted;
@@ -20,7 +20,7 @@ pub enum Answer {
 }
 
 impl fmt::Display for Shown<'_, Answer> {
-    ghost output = { λ a. answer_text (contents a.tables.now) a.value };
+    ghost output = { λ a. Some (answer_text (contents a.tables.now) a.value) };
 
     fn fmt<W: fmt::Write>(&self, f: &mut fmt::Formatter<W>) -> fmt::Result {
         let tables = self.tables;

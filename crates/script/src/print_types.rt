@@ -1,4 +1,9 @@
 // Types of a workbench, written as `steps` reads them.
+ghost use Rattle.std.specs.Prelude.{◌++◌, Some, codes};
+ghost use Rattle.std.specs.Fmt.{WritesOnOk};
+ghost use Rattle.tables.specs.Contents.{contents};
+ghost use Rattle.script.specs.AnswerText.{type_text, part_text};
+
 use crate::printer::*;
 use std::fmt;
 use tables::ids::*;
@@ -13,6 +18,8 @@ pub struct Shown<'a, T> {
 }
 
 impl fmt::Display for Shown<'_, TypeId> {
+    ghost output = { λ t. Some (type_text (contents t.tables.now) t.value.0) };
+
     fn fmt<W: fmt::Write>(&self, f: &mut fmt::Formatter<W>) -> fmt::Result {
         self.write(f)
     }
@@ -22,7 +29,9 @@ impl fmt::Display for Shown<'_, TypeId> {
 // itself only at a type that contains itself.
 impl Shown<'_, TypeId> {
     #[cycle(types)]
-    fn write<W: fmt::Write>(self, f: &mut fmt::Formatter<W>) -> fmt::Result {
+    fn write<W: fmt::Write>(self, f: &mut fmt::Formatter<W>) -> fmt::Result
+        ensures { WritesOnOk W.write_str_gives f.old result (type_text (contents self.entry.tables.now) self.entry.value.0) f.new }
+    {
         match self.tables.term_type(self.value) {
             TermType::Bool => write!(f, "bool"),
             TermType::Long => write!(f, "long"),
@@ -52,7 +61,10 @@ impl Shown<'_, TypeId> {
         f: &mut fmt::Formatter<W>,
         before: &str,
         part: TypeId,
-    ) -> fmt::Result {
+    ) -> fmt::Result
+        ensures { WritesOnOk W.write_str_gives f.old result
+            (before.now ++ (part_text (contents self.entry.tables.now) self.entry.value.0 part.0 ++ codes ")")) f.new }
+    {
         write!(f, "{before}")?;
         if part.0 < self.value.0 {
             let part = Shown {
