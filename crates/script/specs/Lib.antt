@@ -1,3 +1,4 @@
+pub mod AnswerText
 pub mod Decimal
 pub mod Held
 pub mod Print

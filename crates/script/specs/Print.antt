@@ -1,9 +1,4 @@
-use Rattle.std.specs.Prelude.{ℕ, ◌+◌, ◌/◌, ◌%◌, cond, List, [], ◌∷◌, ◌++◌, vec_items, ◌==◌, nat_lt}
-use Rattle.script.specs.declared.printer.Output.{Output}
-
--- What was printed so far.
-abbrev pub printed : Output → List ℕ
-printed o = vec_items o.bytes
+use Rattle.std.specs.Prelude.{ℕ, ◌+◌, ◌/◌, ◌%◌, cond, List, [], ◌∷◌, ◌++◌, flat_map, ◌==◌, nat_lt}
 
 -- the code of a digit 0-9a-f
 abbrev pub hex_code : ℕ → ℕ
@@ -17,11 +12,6 @@ escaped b = 92 ∷ 120 ∷ hex_code (b / 16) ∷ hex_code (b % 16) ∷ []
 abbrev pub spelled : ℕ → List ℕ
 spelled b = cond (b == 34) (escaped b) (cond (b == 92) (escaped b) (cond (nat_lt b 32) (escaped b) (cond (nat_lt b 127) (b ∷ []) (escaped b))))
 
--- Bytes as they are spelled between quotes.
-abbrev pub spelled_all : List ℕ → List ℕ
-spelled_all [] = []
-spelled_all (b ∷ bs) = spelled b ++ spelled_all bs
-
 -- Bytes as a string.
 abbrev pub quoted : List ℕ → List ℕ
-quoted bs = 34 ∷ (spelled_all bs ++ 34 ∷ [])
+quoted bs = 34 ∷ (flat_map spelled bs ++ 34 ∷ [])

@@ -1,12 +1,13 @@
 // Answers, and how they are written.
-use crate::print_types::push_type;
-use crate::printer::*;
-use crate::reader::Bad;
-use std::alloc::AllocError;
+ghost use Rattle.std.specs.Prelude.{Some};
+ghost use Rattle.script.specs.AnswerText.{counts_text, answer_text, refusal_text};
+
+use crate::print_types::Shown;
+use crate::printer::Quoted;
+use std::fmt;
 use tables::capacities::*;
 use tables::ids::*;
 use tables::result::*;
-use tables::storage::*;
 
 #[derive(Clone, Copy)]
 pub enum Answer {
@@ -17,96 +18,56 @@ pub enum Answer {
     Cells(Capacities),
 }
 
-fn push_cells(out: &mut Output, cells: Capacities) -> Result<(), AllocError> {
-    let counts = [
-        (" (terms ", cells.terms),
-        (" (types ", cells.types),
-        (" (names ", cells.names),
-        (" (bytes ", cells.bytes),
-        (" (lists ", cells.lists),
-        (" (rows ", cells.rows),
-    ];
-    for (word, count) in counts {
-        out.push_str(word)?;
-        out.push_number(count as u64)?;
-        out.push_str(")")?;
-    }
-    Ok(())
-}
+impl fmt::Display for Shown<'_, Answer> {
+    ghost output = { λ a. Some (answer_text a.tables.now a.value) };
 
-pub fn push_answer(out: &mut Output, tables: &Tables, answer: Answer) -> Result<(), AllocError> {
-    match answer {
-        Answer::Done => out.push_str("ok"),
-        Answer::Number(number) => {
-            out.push_str("ok ")?;
-            out.push_number(u64::from(number))
-        }
-        Answer::Name(name) => {
-            out.push_str("ok ")?;
-            out.push_quoted(tables.name(name))
-        }
-        Answer::Type(ty) => {
-            out.push_str("ok ")?;
-            push_type(out, tables, ty)
-        }
-        Answer::Cells(cells) => {
-            out.push_str("ok")?;
-            push_cells(out, cells)
+    fn fmt<W: fmt::Write>(&self, f: &mut fmt::Formatter<W>) -> fmt::Result {
+        let tables = self.tables;
+        match self.value {
+            Answer::Done => write!(f, "ok"),
+            Answer::Number(number) => write!(f, "ok {number}"),
+            Answer::Name(name) => write!(f, "ok {}", Quoted(tables.name(name))),
+            Answer::Type(value) => write!(f, "ok {}", Shown { tables, value }),
+            Answer::Cells(cells) => write!(f, "ok {}", Cells(cells)),
         }
     }
 }
 
-fn table_word(table: Table) -> &'static str {
-    match table {
-        Table::Terms => "terms",
-        Table::Types => "types",
-        Table::Names => "names",
-        Table::Lists => "lists",
-        Table::Rows => "rows",
+#[derive(Clone, Copy)]
+struct Cells(Capacities);
+
+impl fmt::Display for Cells {
+    ghost output = { λ c. Some (counts_text c.0) };
+
+    fn fmt<W: fmt::Write>(&self, f: &mut fmt::Formatter<W>) -> fmt::Result {
+        let Capacities {
+            terms,
+            types,
+            names,
+            bytes,
+            lists,
+            rows,
+        } = self.0;
+        write!(
+            f,
+            "(terms {terms}) (types {types}) (names {names}) \
+             (bytes {bytes}) (lists {lists}) (rows {rows})"
+        )
     }
 }
 
-fn refusal_word(error: CompileError) -> &'static str {
-    match error {
-        CompileError::NoSuchEntityType(_) => "NoSuchEntityType",
-        CompileError::NoSuchAttribute(_) => "NoSuchAttribute",
-        CompileError::TypeError => "TypeError",
-        CompileError::UnsupportedFeature => "UnsupportedFeature",
-        CompileError::Full(_) => "Full",
-        CompileError::BadInput => "BadInput",
-        CompileError::TooDeep => "TooDeep",
-        CompileError::NotCovered => "NotCovered",
-        CompileError::NotBoolean => "NotBoolean",
-        CompileError::BadRow => "BadRow",
-        CompileError::NoMemory => "NoMemory",
-    }
-}
+// A refusal, with the name or the table that it speaks of.
+impl fmt::Display for Shown<'_, CompileError> {
+    ghost output = { λ e. Some (refusal_text e.tables.now e.value) };
 
-pub fn push_refusal(
-    out: &mut Output,
-    tables: &Tables,
-    error: CompileError,
-) -> Result<(), AllocError> {
-    out.push_str("err ")?;
-    out.push_str(refusal_word(error))?;
-    match error {
-        CompileError::NoSuchEntityType(name) | CompileError::NoSuchAttribute(name) => {
-            out.push_str(" ")?;
-            out.push_quoted(tables.name(name))
+    fn fmt<W: fmt::Write>(&self, f: &mut fmt::Formatter<W>) -> fmt::Result {
+        let error = self.value;
+        match error {
+            CompileError::NoSuchEntityType(name) | CompileError::NoSuchAttribute(name) => {
+                write!(f, "err {error} {}", Quoted(self.tables.name(name)))
+            }
+            CompileError::Full(table) => write!(f, "err {error} {table}"),
+            _ => write!(f, "err {error}"),
         }
-        CompileError::Full(table) => {
-            out.push_str(" ")?;
-            out.push_str(table_word(table))
-        }
-        _ => Ok(()),
     }
-}
-
-pub fn push_bad(out: &mut Output, number: usize, bad: Bad) -> Result<(), AllocError> {
-    out.push_str("bad ")?;
-    out.push_number(number as u64)?;
-    out.push_str(":")?;
-    out.push_number(bad.column as u64)?;
-    out.push_str(" ")?;
-    out.push_str(bad.message)
 }

@@ -1,74 +1,77 @@
-// Writes a type of a workbench as `steps` reads it.
+// Types of a workbench, written as `steps` reads them.
+ghost use Rattle.std.specs.Prelude.{◌++◌, Some, codes};
+ghost use Rattle.std.specs.Fmt.{WritesOnOk};
+ghost use Rattle.script.specs.AnswerText.{type_text, part_text};
+
 use crate::printer::*;
-use std::alloc::AllocError;
+use std::fmt;
 use tables::ids::*;
 use tables::storage::*;
 use tables::term_type::*;
 
-#[cycle(push_types)]
-pub fn push_type(out: &mut Output, tables: &Tables, id: TypeId) -> Result<(), AllocError> {
-    match tables.term_type(id) {
-        TermType::Bool => out.push_str("bool"),
-        TermType::Long => out.push_str("long"),
-        TermType::String => out.push_str("string"),
-        TermType::Decimal => out.push_str("decimal"),
-        TermType::Datetime => out.push_str("datetime"),
-        TermType::Duration => out.push_str("duration"),
-        TermType::Entity(name) => push_entity(out, tables, name),
-        TermType::Set(part) => push_of(out, tables, "(set ", id, part),
-        TermType::Option(part) => push_of(out, tables, "(option ", id, part),
-        TermType::Record(fields) => push_record(out, tables, id, fields),
+// A value whose text takes names and types from the tables.
+#[derive(Clone, Copy)]
+pub struct Shown<'a, T> {
+    pub tables: &'a Tables,
+    pub value: T,
+}
+
+impl fmt::Display for Shown<'_, TypeId> {
+    ghost output = { λ t. Some (type_text t.tables.now t.value.0) };
+
+    fn fmt<W: fmt::Write>(&self, f: &mut fmt::Formatter<W>) -> fmt::Result {
+        self.write(f)
     }
 }
 
-fn push_entity(out: &mut Output, tables: &Tables, name: NameId) -> Result<(), AllocError> {
-    out.push_str("(entity ")?;
-    out.push_quoted(tables.name(name))?;
-    out.push_str(")")
-}
-
-#[cycle(push_types)]
-fn push_of(
-    out: &mut Output,
-    tables: &Tables,
-    word: &str,
-    whole: TypeId,
-    part: TypeId,
-) -> Result<(), AllocError> {
-    out.push_str(word)?;
-    push_part(out, tables, whole, part)?;
-    out.push_str(")")
-}
-
-#[cycle(push_types)]
-fn push_record(
-    out: &mut Output,
-    tables: &Tables,
-    whole: TypeId,
-    fields: &[FieldType],
-) -> Result<(), AllocError> {
-    out.push_str("(record")?;
-    for field in fields {
-        out.push_str(" (")?;
-        out.push_quoted(tables.name(field.name))?;
-        out.push_str(" ")?;
-        push_part(out, tables, whole, field.ty)?;
-        out.push_str(")")?;
+// These two call each other, where `fmt` would print a part with `write!`: a `fmt` may lead back to
+// itself only at a type that contains itself.
+impl Shown<'_, TypeId> {
+    #[cycle(types)]
+    fn write<W: fmt::Write>(self, f: &mut fmt::Formatter<W>) -> fmt::Result
+        ensures { WritesOnOk W.write_str_gives f.old result (type_text self.entry.tables.now self.entry.value.0) f.new }
+    {
+        match self.tables.term_type(self.value) {
+            TermType::Bool => write!(f, "bool"),
+            TermType::Long => write!(f, "long"),
+            TermType::String => write!(f, "string"),
+            TermType::Decimal => write!(f, "decimal"),
+            TermType::Datetime => write!(f, "datetime"),
+            TermType::Duration => write!(f, "duration"),
+            TermType::Entity(name) => write!(f, "(entity {})", Quoted(self.tables.name(name))),
+            TermType::Set(part) => self.write_part(f, "(set ", part),
+            TermType::Option(part) => self.write_part(f, "(option ", part),
+            TermType::Record(fields) => {
+                write!(f, "(record")?;
+                for field in fields {
+                    write!(f, " ({}", Quoted(self.tables.name(field.name)))?;
+                    self.write_part(f, " ", field.ty)?;
+                }
+                write!(f, ")")
+            }
+        }
     }
-    out.push_str(")")
-}
 
-// A part has been entered before its whole, so it has a smaller number; the test is how the proof
-// knows it.
-#[cycle(push_types)]
-fn push_part(
-    out: &mut Output,
-    tables: &Tables,
-    whole: TypeId,
-    part: TypeId,
-) -> Result<(), AllocError> {
-    if part.0 < whole.0 {
-        push_type(out, tables, part)?;
+    // Writes the rest of a list whose last item is a part of this type. A part has been entered
+    // before its whole, so it has a smaller number; the test is how the proof knows it.
+    #[cycle(types)]
+    fn write_part<W: fmt::Write>(
+        self,
+        f: &mut fmt::Formatter<W>,
+        before: &str,
+        part: TypeId,
+    ) -> fmt::Result
+        ensures { WritesOnOk W.write_str_gives f.old result
+            (before.now ++ (part_text self.entry.tables.now self.entry.value.0 part.0 ++ codes ")")) f.new }
+    {
+        write!(f, "{before}")?;
+        if part.0 < self.value.0 {
+            let part = Shown {
+                tables: self.tables,
+                value: part,
+            };
+            part.write(f)?;
+        }
+        write!(f, ")")
     }
-    Ok(())
 }

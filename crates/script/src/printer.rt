@@ -1,90 +1,37 @@
-// Writes what `reader` reads. Each call appends to what is there, or fails for want of memory
-// and may then have appended a part.
-ghost use Rattle.std.specs.Prelude.{◌≡◌, ◌<◌, [], ◌++◌, OnOk};
-ghost use Rattle.script.specs.Print.{printed, hex_code, escaped, spelled, spelled_all, quoted};
+// Strings in quotes, written as `reader` reads them.
+ghost use Rattle.std.specs.Prelude.{Some};
+ghost use Rattle.script.specs.Print.{spelled, quoted};
 
-use std::alloc::{AllocError, Global};
+use std::fmt;
 
-#[derive(Drop)]
-pub struct Output {
-    bytes: Vec<u8>,
-}
+// A byte within quotes.
+#[derive(Clone, Copy)]
+struct Spelled(u8);
 
-fn hex_code(digit: u8) -> u8
-    requires { digit < 16 }
-    ensures { result ≡ hex_code digit }
-{
-    if digit < 10 {
-        b'0' + digit
-    } else {
-        b'a' - 10 + digit
-    }
-}
+impl fmt::Display for Spelled {
+    ghost output = { λ b. Some (spelled b.0) };
 
-impl Output {
-    pub fn new(heap: Global) -> Output
-        ensures { printed result ≡ [] }
-    {
-        Output {
-            bytes: Vec::new(heap),
-        }
-    }
-
-    pub fn as_slice(&self) -> &[u8]
-        ensures { result.now ≡ printed self.now }
-    {
-        self.bytes.as_slice()
-    }
-
-    pub fn push_bytes(&mut self, more: &[u8]) -> Result<(), AllocError>
-        ensures { OnOk result (printed self.new ≡ printed self.old ++ more.now) }
-    {
-        self.bytes.extend_from_slice(more)
-    }
-
-    pub fn push_str(&mut self, text: &str) -> Result<(), AllocError>
-        ensures { OnOk result (printed self.new ≡ printed self.old ++ text.now) }
-    {
-        self.push_bytes(text.as_bytes())
-    }
-
-    pub fn push_number(&mut self, number: u64) -> Result<(), AllocError> {
-        let digits = format!(in *self.bytes.allocator(); "{number}")?;
-        self.push_bytes(digits.as_bytes())
-    }
-
-    // Writes a string that is ASCII whatever its bytes are, and that reads as those bytes.
-    pub fn push_quoted(&mut self, bytes: &[u8]) -> Result<(), AllocError>
-        ensures { OnOk result (printed self.new ≡ printed self.old ++ quoted bytes.now) }
-    {
-        self.push_bytes(b"\"")?;
-        self.push_all_in_quotes(bytes)?;
-        self.push_bytes(b"\"")?;
-        Ok(())
-    }
-
-    fn push_all_in_quotes(&mut self, bytes: &[u8]) -> Result<(), AllocError>
-        ensures { OnOk result (printed self.new ≡ printed self.old ++ spelled_all bytes.now) }
-    {
-        for byte in bytes {
-            self.push_in_quotes(*byte)?;
-        }
-        Ok(())
-    }
-
-    fn push_in_quotes(&mut self, byte: u8) -> Result<(), AllocError>
-        ensures { OnOk result (printed self.new ≡ printed self.old ++ spelled byte) }
-    {
+    fn fmt<W: fmt::Write>(&self, f: &mut fmt::Formatter<W>) -> fmt::Result {
+        let byte = self.0;
         match byte {
-            b'"' | b'\\' => self.push_escaped(byte),
-            b' '..=b'~' => self.push_bytes(&[byte]),
-            _ => self.push_escaped(byte),
+            b' ' | b'!' | b'#'..=b'[' | b']'..=b'~' => f.write_char(char::from(byte)),
+            _ => write!(f, "\\x{byte:02x}"),
         }
     }
+}
 
-    fn push_escaped(&mut self, byte: u8) -> Result<(), AllocError>
-        ensures { OnOk result (printed self.new ≡ printed self.old ++ escaped byte) }
-    {
-        self.push_bytes(&[b'\\', b'x', hex_code(byte / 16), hex_code(byte % 16)])
+// A string that is ASCII whatever its bytes are, and that reads as those bytes.
+#[derive(Clone, Copy)]
+pub struct Quoted<'a>(pub &'a [u8]);
+
+impl fmt::Display for Quoted<'_> {
+    ghost output = { λ q. Some (quoted q.0.now) };
+
+    fn fmt<W: fmt::Write>(&self, f: &mut fmt::Formatter<W>) -> fmt::Result {
+        write!(f, "\"")?;
+        for byte in self.0 {
+            write!(f, "{}", Spelled(*byte))?;
+        }
+        write!(f, "\"")
     }
 }

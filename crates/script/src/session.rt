@@ -8,7 +8,7 @@ use crate::enter::enter_type;
 use crate::fault::*;
 use crate::form::*;
 use crate::parts::bad_at;
-use crate::printer::*;
+use crate::print_types::Shown;
 use crate::reader::*;
 use crate::request::*;
 use crate::state::*;
@@ -109,19 +109,16 @@ impl Session {
         self.carry_out(&line, request)
     }
 
-    fn push_response(
-        &self,
-        out: &mut Output,
-        number: usize,
-        response: Result<Answer, Fault>,
-    ) -> Result<(), AllocError> {
+    fn text(&self, number: usize, response: Result<Answer, Fault>) -> Result<String, AllocError> {
         let Some(tables) = self.state.tables() else {
-            return out.push_str("err NoMemory");
+            return format!(in self.heap; "err {}", CompileError::NoMemory);
         };
         match response {
-            Ok(answer) => push_answer(out, tables, answer),
-            Err(Fault::Bad(bad)) => push_bad(out, number, bad),
-            Err(Fault::Refused(error)) => push_refusal(out, tables, error),
+            Ok(value) => format!(in self.heap; "{}", Shown { tables, value }),
+            Err(Fault::Refused(value)) => format!(in self.heap; "{}", Shown { tables, value }),
+            Err(Fault::Bad(Bad { column, message })) => {
+                format!(in self.heap; "bad {number}:{column} {message}")
+            }
         }
     }
 
@@ -135,10 +132,9 @@ impl Session {
             return Ok(());
         }
         let response = self.respond(line);
-        let mut text = Output::new(self.heap);
-        self.push_response(&mut text, number, response)?;
-        text.push_bytes(b"\n")?;
-        out.extend_from_slice(text.as_slice())
+        let mut text = self.text(number, response)?;
+        text.push('\n')?;
+        out.extend_from_slice(text.as_bytes())
     }
 }
 

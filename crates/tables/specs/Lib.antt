@@ -9,3 +9,4 @@ pub mod Refusals
 pub mod Opening
 pub mod Shapes
 pub mod Calls
+pub mod Words
