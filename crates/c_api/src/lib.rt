@@ -34,6 +34,7 @@ fn fill_front(buffer: &mut [u8], text: &[u8])
     buffer[..text.len()].copy_from_slice(text);
 }
 
+// What `nikdawam_run` does, with its refusals by name.
 fn run(heap: Global, script: &[u8], answers: &mut [u8]) -> Result<i64, Refusal>
     ensures ok { IfOk result (λ n. Filled n answers.old answers.new) }
     ensures err { OnErr result (answers.new ≡ answers.old) }
