@@ -3,18 +3,21 @@ ghost use Rattle.std.specs.Int.{int_wrap, w64};
 ghost use Rattle.bits.specs.Exact.{outside};
 
 // A Bitvec is a 64-bit two's complement number. The arithmetic is modulo 2^64.
+#[tactic(auto, using(std::proofs::lemmas::Int::wraps))]
 pub fn neg(a: i64) -> i64
     ensures { result ≡ int_wrap w64 (neg_ℤ a) }
 {
     a.wrapping_neg()
 }
 
+#[tactic(auto, using(std::proofs::lemmas::Int::wraps))]
 pub fn add(a: i64, b: i64) -> i64
     ensures { result ≡ int_wrap w64 (a +ℤ b) }
 {
     a.wrapping_add(b)
 }
 
+#[tactic(auto, using(std::proofs::lemmas::Int::wraps))]
 pub fn sub(a: i64, b: i64) -> i64
     ensures { result ≡ int_wrap w64 (a -ℤ b) }
 {

@@ -5,7 +5,7 @@ use script::session::run_script;
 use std::alloc::AllocError;
 use std::io::{Read, Write};
 use std::process::ExitCode;
-use std::{env, fs, io};
+use std::{env, fmt, fs, io};
 
 const USAGE: &str = "usage: nikdawam [FILE]
 
@@ -18,10 +18,21 @@ and writes the answers, one line for each request.
 // Why the program ends with status 1.
 #[derive(Debug, Drop)]
 enum Failure {
-    // The message is printed already.
-    Told,
+    Usage { message: &'static str, word: String },
+    File { name: String, error: io::Error },
     Io(io::Error),
     NoMemory,
+}
+
+impl fmt::Display for Failure {
+    fn fmt<W: fmt::Write>(&self, f: &mut fmt::Formatter<W>) -> fmt::Result {
+        match self {
+            Failure::Usage { message, word } => write!(f, "{message}: {word}\n{USAGE}"),
+            Failure::File { name, error } => write!(f, "{name}: {error}"),
+            Failure::Io(error) => write!(f, "{error}"),
+            Failure::NoMemory => write!(f, "out of memory"),
+        }
+    }
 }
 
 impl From<AllocError> for Failure {
@@ -44,11 +55,6 @@ enum Command {
     Run(Option<String>),
 }
 
-fn refuse(rt: &HostRuntime, message: &str, word: &str) -> Result<Command, Failure> {
-    eprintln!(rt; "nikdawam: {message}: {word}\n{USAGE}")?;
-    Err(Failure::Told)
-}
-
 fn read_args(rt: &HostRuntime) -> Result<Command, Failure> {
     let mut file = None;
     for word in env::args(rt)?.skip(1) {
@@ -56,14 +62,19 @@ fn read_args(rt: &HostRuntime) -> Result<Command, Failure> {
             "-h" | "--help" => return Ok(Command::Help),
             "--version" => return Ok(Command::Version),
             "-" => {}
-            text => {
-                if text.starts_with('-') {
-                    return refuse(rt, "unknown flag", text);
-                }
+            text if text.starts_with('-') => {
+                return Err(Failure::Usage {
+                    message: "unknown flag",
+                    word,
+                });
             }
+            _ => {}
         }
         if file.is_some() {
-            return refuse(rt, "more than one file", word.as_str());
+            return Err(Failure::Usage {
+                message: "more than one file",
+                word,
+            });
         }
         file = Some(word);
     }
@@ -83,19 +94,11 @@ fn read_named(rt: &HostRuntime, name: &str) -> io::Result<Vec<u8>> {
     fs::read(rt, name)
 }
 
-fn read_file(rt: &HostRuntime, name: &str) -> Result<Vec<u8>, Failure> {
-    match read_named(rt, name) {
-        Ok(script) => Ok(script),
-        Err(error) => {
-            eprintln!(rt; "nikdawam: {name}: {error}")?;
-            Err(Failure::Told)
-        }
-    }
-}
-
 fn run(rt: &HostRuntime, file: Option<String>) -> Result<(), Failure> {
     let script = match file {
-        Some(name) => read_file(rt, name.as_str())?,
+        Some(name) => {
+            read_named(rt, name.as_str()).map_err(|error| Failure::File { name, error })?
+        }
         None => read_stdin(rt)?,
     };
     let answers = run_script(rt.alloc(), script.as_slice())?;
@@ -112,22 +115,12 @@ fn execute(rt: &HostRuntime) -> Result<(), Failure> {
     Ok(())
 }
 
-// Says why, where that is not said yet.
-fn tell(rt: &HostRuntime, failure: &Failure) -> io::Result<()> {
-    match failure {
-        Failure::Told => {}
-        Failure::Io(error) => eprintln!(rt; "nikdawam: {error}")?,
-        Failure::NoMemory => eprintln!(rt; "nikdawam: out of memory")?,
-    }
-    Ok(())
-}
-
 fn main(rt: HostRuntime) -> ExitCode {
     match execute(&rt) {
         Ok(()) => ExitCode::SUCCESS,
         Err(failure) => {
             // Where the message cannot be written, the status still tells.
-            let _ = tell(&rt, &failure);
+            let _ = eprintln!(rt; "nikdawam: {failure}");
             ExitCode::FAILURE
         }
     }

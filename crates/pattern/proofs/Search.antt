@@ -1,174 +1,150 @@
 -- What the search for a match keeps true from turn to turn.
-use Rattle.std.proofs.Common.{◌≡◌, ℕ, ◌+◌, ◌-◌, ◌*◌, ◌<◌, ◌≤◌, Bool, true, false, ◌&&◌, ◌||◌, eqb, ltb, List, [], length, get_or, drop, Some, None, Option, sym, ap, ◌∙◌, subst, ap₂, ⊎_elim, mul-le-mul_right, arith}
-use Rattle.std.proofs.lemmas.List.{drop_more, drop_all}
-use Rattle.std.proofs.lemmas.Bool.{false≢true, both_ways, and_parts, and_from, or_right, ltb-true, lt-ltb, eqb-true, eq-eqb, ne_eqb, cases_lt}
-use Rattle.pattern.specs.declared.like.Place.{Place}
-use Rattle.pattern.specs.Like.{is_empty, some_suffix, begins_with, matches, stands_at}
-use Rattle.pattern.proofs.Suffixes.{or_covered, suffix_twice, suffix_shorter, suffix_from, matches_run, matches_byte}
+use Rattle.std.proofs.Common.{◌≡◌, ◌≢◌, ℕ, ◌+◌, ◌-◌, ◌*◌, ◌≤◌, Bool, true, false, ◌&&◌, ◌||◌, eqb, List, [], ◌∷◌, length, get_or, take, drop, cond, Some, None, Option, sym, refl, ap, ◌∙◌, ap₂, arith}
+use mathlib.Core.Path.{fun_ext}
+use Rattle.std.specs.List.{list_all}
+use Rattle.std.proofs.lemmas.List.{drop_more, take_rest}
+use Rattle.std.proofs.lemmas.Bool.{false≢true, or_right, cond-false, eq-eqb, ne_eqb}
+use Rattle.pattern.specs.declared.like.AfterRun.{AfterRun}
+use Rattle.pattern.specs.Like.{is_empty, some_suffix, begins_with, matches}
+use Rattle.pattern.proofs.Suffixes.{or_covered, suffix_twice, suffix_shorter, suffix_from}
 
--- The place after the last run, if one was met, is not past the places p and t.
-abbrev pub Behind : Option Place → ℕ → ℕ → Type 0
-Behind None p t = Unit {0}
-Behind (Some place) p t = (place.pattern ≤ p) × (place.text ≤ t)
+-- One of the tries after the last run that are still to come succeeds.
+unfoldable pub later_try : Option AfterRun → Bool
+later_try None = false
+later_try (Some run) = some_suffix (matches run.pattern.now) (drop 1 run.text.now)
 
--- From how many places of the text what follows a run can still be tried.
-abbrev pub tries_left : List ℕ → Option Place → ℕ
+-- How many tries are left at most.
+abbrev pub tries_left : List ℕ → Option AfterRun → ℕ
 tries_left text None = length text + 1
-tries_left text (Some place) = length text - place.text
+tries_left text (Some run) = length run.text.now
+
+-- How many numbers the next try reads at most.
+abbrev pub numbers_again : Option AfterRun → ℕ
+numbers_again None = 0
+numbers_again (Some run) = length run.pattern.now
 
 module _ (pattern text : List ℕ) where
   -- How many turns are left at most: each try reads the pattern at most once.
-  abbrev pub turns_left : ℕ → Option Place → ℕ
-  turns_left p run = tries_left text run * (length pattern + 1) + (length pattern - p)
-
-  -- One of the tries after the last run that are still to come succeeds.
-  unfoldable pub later_try : Option Place → Bool
-  later_try None = false
-  later_try (Some place) = some_suffix (matches (drop place.pattern pattern)) (drop (place.text + 1) text)
+  abbrev pub turns_left : List ℕ → Option AfterRun → ℕ
+  turns_left numbers run = tries_left text run * (length pattern + 1) + length numbers
 
   -- What is left of both, or a later try, gives what the whole gives. And a later try succeeds only where what is left of
   -- the pattern matches some suffix of what is left of the text, since it has to come past there.
-  pub record Searching (p t : ℕ) (run : Option Place) : Type 0 where
-    pub inside_pattern : p ≤ length pattern
-    pub inside_text : t ≤ length text
-    pub behind : Behind run p t
-    pub same : (matches (drop p pattern) (drop t text) || later_try run) ≡ matches pattern text
-    pub covered : later_try run ≡ true → some_suffix (matches (drop p pattern)) (drop t text) ≡ true
+  pub record Searching (numbers bytes : List ℕ) (run : Option AfterRun) : Type 0 where
+    pub inside_pattern : length numbers ≤ length pattern
+    pub inside_again : numbers_again run ≤ length pattern
+    pub inside_text : length bytes ≤ tries_left text run
+    pub same : (matches numbers bytes || later_try run) ≡ matches pattern text
+    pub covered : later_try run ≡ true → some_suffix (matches numbers) bytes ≡ true
 
-  pub search_begins : Searching 0 0 None
+  pub search_begins : Searching pattern text None
   unfolding later_try
   search_begins = record {
     inside_pattern = omega arith;
+    inside_again = omega arith;
     inside_text = omega arith;
-    behind = tt;
     same = or_covered (matches pattern text) false (λ e. absurd (false≢true e));
     covered = λ e. absurd (false≢true e);
   }
 
-module _ (pattern : List ℕ) (p c : ℕ) where
-  stands_here : stands_at c p pattern ≡ true → (p < length pattern) × (get_or pattern p 0 ≡ c)
-  stands_here e =
-      let (h, g) = and_parts (ltb p (length pattern)) (eqb (get_or pattern p 0) c) e in
-      (ltb-true p (length pattern) h, eqb-true (get_or pattern p 0) c g)
+-- A pattern that has come to its end, or asks for another byte, does not match.
+no_match : (numbers rest : List ℕ) (b : ℕ) → ((p : List ℕ) → numbers ≢ 256 ∷ p) → ((p : List ℕ) → numbers ≢ b ∷ p) → matches numbers (b ∷ rest) ≡ false
+unfolding matches is_empty begins_with
+no_match [] rest b no_run no_byte = refl
+no_match (c ∷ p) rest b no_run no_byte =
+    cond-false _ _ _ (ne_eqb c 256 (λ e. no_run p (ap (λ x. x ∷ p) e)))
+    ∙ ap (λ x. x && matches p rest) (ne_eqb c b (λ e. no_byte p (ap (λ x. x ∷ p) e)))
 
-  stands_not : stands_at c p pattern ≡ false → p < length pattern → get_or pattern p 0 ≡ c → ⊥
-  stands_not f h e = both_ways _ f (and_from (ltb p (length pattern)) (eqb (get_or pattern p 0) c) (lt-ltb p (length pattern) h) (eq-eqb (get_or pattern p 0) c e))
+-- A pattern that holds runs only, and no other, matches the empty text.
+pub all_runs : (numbers : List ℕ) → list_all (λ n. eqb n 256) numbers ≡ matches numbers []
+unfolding matches is_empty some_suffix begins_with
+all_runs [] = refl
+all_runs (c ∷ p) = elim (eqb c 256) as (λ run. (run && list_all (λ n. eqb n 256) p) ≡ cond run (matches p []) false) [ true ↦ all_runs p | false ↦ refl ]
 
-module _ {pattern text : List ℕ} {p t : ℕ} {run : Option Place} (s : Searching pattern text p t run) where
-  module _ (e : stands_at 256 p pattern ≡ true) where
-    -- A new run takes the place of the one before: where a later try after that one succeeds, some suffix of what is left does.
-    pub search_run : Searching pattern text (p + 1) t (Some (record { pattern = p + 1; text = t }))
-    unfolding later_try
-    search_run = record {
-      inside_pattern = omega (arith, h);
-      inside_text = s.inside_text;
-      behind = (omega arith, omega arith);
-      same = sym (suffix_from next text t) ∙ sym here ∙ sym (or_covered _ _ (λ l. here ∙ enough l)) ∙ s.same;
-      covered = λ l. suffix_from next text t ∙ or_right (next (drop t text)) _ l;
-    }
-      where
-        h : p < length pattern
-        h = (stands_here pattern p 256 e).0
-
-        next : List ℕ → Bool
-        next = matches (drop (p + 1) pattern)
-
-        first : matches (drop p pattern) ≡ some_suffix next
-        first = matches_run pattern p h (stands_here pattern p 256 e).1
-
-        here : matches (drop p pattern) (drop t text) ≡ some_suffix next (drop t text)
-        here = ap (λ test. test (drop t text)) first
-
-        enough : later_try pattern text run ≡ true → some_suffix next (drop t text) ≡ true
-        enough l = suffix_twice next (drop t text) (sym (ap (λ test. some_suffix test (drop t text)) first) ∙ s.covered l)
-
-    -- It leaves no more tries than the one before, and less of the pattern.
-    pub run_less : turns_left pattern text (p + 1) (Some (record { pattern = p + 1; text = t })) < turns_left pattern text p run
-    run_less = omega (arith, (stands_here pattern p 256 e).0, mul-le-mul_right (length pattern + 1) (fewer run s.behind))
-      where
-        fewer : (r : Option Place) → Behind r p t → length text - t ≤ tries_left text r
-        fewer None b = omega arith
-        fewer (Some place) b = omega arith
+module _ {pattern text numbers bytes : List ℕ} {run : Option AfterRun} (s : Searching pattern text numbers bytes run) where
+  -- At the end of the text no later try does better than what is left of the pattern.
+  pub search_ends : bytes ≡ [] → matches numbers [] ≡ matches pattern text
+  unfolding some_suffix
+  search_ends end = sym (ap (matches numbers) end) ∙ sym (or_covered _ _ (λ l. at_end (s.covered l))) ∙ s.same
+    where
+      at_end : some_suffix (matches numbers) bytes ≡ true → matches numbers bytes ≡ true
+      at_end l = ap (matches numbers) end ∙ sym (ap (some_suffix (matches numbers)) end) ∙ l
 
   -- The next byte of the text is b, and no run comes next in the pattern.
-  module _ (g : t < length text) (n : stands_at 256 p pattern ≡ false) {b : ℕ} (b-is : b ≡ get_or text t 0) where
-    next_byte : p < length pattern → matches (drop p pattern) (drop t text) ≡ (eqb (get_or pattern p 0) (get_or text t 0) && matches (drop (p + 1) pattern) (drop (t + 1) text))
-    unfolding begins_with
-    next_byte h = ap₂ (λ test s. test s) (matches_byte pattern p h (stands_not pattern p 256 n h)) (drop_more text t 0 g)
+  module _ (some : 1 ≤ length bytes) {b : ℕ} (b_is : b ≡ get_or bytes 0 0) (no_run : (p : List ℕ) → numbers ≢ 256 ∷ p) where
+    rest : List ℕ
+    rest = take (length bytes - 1) (drop 1 bytes)
 
-    -- A byte that stands in both is passed in both.
-    pub search_byte : stands_at b p pattern ≡ true → Searching pattern text (p + 1) (t + 1) run
-    search_byte e = record {
-      inside_pattern = omega (arith, h);
-      inside_text = omega arith;
-      behind = still run s.behind;
-      same = sym (ap (λ x. x || later_try pattern text run) here) ∙ s.same;
-      covered = λ l. suffix_shorter next (get_or pattern p 0) (get_or text t 0) (drop (t + 1) text) (sym (ap₂ some_suffix first (drop_more text t 0 g)) ∙ s.covered l);
+    front : bytes ≡ b ∷ rest
+    unfolding rest
+    front = drop_more bytes 0 0 some ∙ ap₂ (λ c t. c ∷ t) (sym b_is) (sym (take_rest bytes 1))
+
+    -- A byte that comes next in both is passed in both.
+    pub search_byte : (more : List ℕ) → numbers ≡ b ∷ more → Searching pattern text more (take (length bytes - 1) (drop 1 bytes)) run
+    unfolding matches begins_with rest
+    search_byte more is = record {
+      inside_pattern = omega (arith, ap length is, s.inside_pattern);
+      inside_again = s.inside_again;
+      inside_text = omega (arith, ap length front, s.inside_text);
+      same = sym (ap (λ x. x || later_try run) here) ∙ s.same;
+      covered = λ l. suffix_shorter (matches more) b b rest (sym (ap₂ some_suffix first front) ∙ s.covered l);
     }
       where
-        h : p < length pattern
-        h = (stands_here pattern p b e).0
+        first : matches numbers ≡ begins_with b (matches more)
+        first = ap matches is ∙ fun_ext (λ t. cond-false _ _ _ (ne_eqb b 256 (λ e. no_run more (is ∙ ap (λ x. x ∷ more) e))))
 
-        next : List ℕ → Bool
-        next = matches (drop (p + 1) pattern)
+        here : matches numbers bytes ≡ matches more rest
+        here = ap₂ (λ test t. test t) first front ∙ ap (λ x. x && matches more rest) (eq-eqb b b refl)
 
-        first : matches (drop p pattern) ≡ begins_with (get_or pattern p 0) next
-        first = matches_byte pattern p h (stands_not pattern p 256 n h)
-
-        here : matches (drop p pattern) (drop t text) ≡ next (drop (t + 1) text)
-        here = next_byte h ∙ ap (λ x. x && next (drop (t + 1) text)) (eq-eqb (get_or pattern p 0) (get_or text t 0) ((stands_here pattern p b e).1 ∙ b-is))
-
-        still : (r : Option Place) → Behind r p t → Behind r (p + 1) (t + 1)
-        still None b = tt
-        still (Some place) b = (omega arith, omega arith)
-
-    module _ (f : stands_at b p pattern ≡ false) where
-      -- A pattern that has come to its end, or asks for another byte, does not match what is left of the text.
-      stuck : matches (drop p pattern) (drop t text) ≡ false
-      unfolding matches is_empty
-      stuck = ⊎_elim inside past (cases_lt p (length pattern))
-        where
-          inside : p < length pattern → matches (drop p pattern) (drop t text) ≡ false
-          inside h =
-              next_byte h
-              ∙ ap (λ x. x && matches (drop (p + 1) pattern) (drop (t + 1) text))
-              (ne_eqb (get_or pattern p 0) (get_or text t 0) (λ e. stands_not pattern p b f h (e ∙ sym b-is)))
-
-          past : length pattern ≤ p → matches (drop p pattern) (drop t text) ≡ false
-          past h = ap₂ matches (drop_all p pattern h) (drop_more text t 0 g)
-
-      -- So the next try is made.
-      pub search_back : (place : Place) → run ≡ Some place → Searching pattern text place.pattern (place.text + 1) (Some (record { pattern = place.pattern; text = place.text + 1 }))
-      unfolding later_try
-      search_back place is = record {
-        inside_pattern = omega (arith, met);
-        inside_text = omega (arith, met);
-        behind = (omega arith, omega arith);
-        same = sym (suffix_from again text (place.text + 1)) ∙ ap₂ (λ x r. x || later_try pattern text r) (sym stuck) (sym is) ∙ s.same;
-        covered = λ l. suffix_from again text (place.text + 1) ∙ or_right (again (drop (place.text + 1) text)) _ l;
-      }
-        where
-          again : List ℕ → Bool
-          again = matches (drop place.pattern pattern)
-
-          met : Behind (Some place) p t
-          met = subst (λ r. Behind r p t) is s.behind
+    module _ (no_byte : (p : List ℕ) → numbers ≢ b ∷ p) where
+      stuck : matches numbers bytes ≡ false
+      stuck = ap (matches numbers) front ∙ no_match numbers rest b no_run no_byte
 
       -- With no run to go back to, there is no match.
       pub search_fails : run ≡ None → false ≡ matches pattern text
       unfolding later_try
-      search_fails is = ap₂ (λ x r. x || later_try pattern text r) (sym stuck) (sym is) ∙ s.same
+      search_fails is = ap₂ (λ x r. x || later_try r) (sym stuck) (sym is) ∙ s.same
 
-  -- At the end of the text no later try does better than what is left of the pattern.
-  pub search_ends : length text ≤ t → matches (drop p pattern) [] ≡ matches pattern text
-  unfolding some_suffix
-  search_ends h = sym (ap left end) ∙ sym (or_covered _ _ (λ l. at_end (s.covered l))) ∙ s.same
+      -- Else the next try is made.
+      pub search_back : (last next : AfterRun) → run ≡ Some last → next.pattern.now ≡ last.pattern.now → next.text.now ≡ drop 1 last.text.now → Searching pattern text next.pattern.now next.text.now (Some next)
+      unfolding later_try
+      search_back last next is p t = record {
+        inside_pattern = again;
+        inside_again = again;
+        inside_text = omega arith;
+        same = sym (suffix_from test next.text.now) ∙ tries ∙ ap (λ x. x || later_try run) (sym stuck) ∙ s.same;
+        covered = λ l. suffix_from test next.text.now ∙ or_right (test next.text.now) _ l;
+      }
+        where
+          test : List ℕ → Bool
+          test = matches next.pattern.now
+
+          again : length next.pattern.now ≤ length pattern
+          again = omega (arith, ap numbers_again is, ap length p, s.inside_again)
+
+          tries : some_suffix test next.text.now ≡ later_try run
+          tries = ap₂ (λ n b. some_suffix (matches n) b) p t ∙ ap later_try (sym is)
+
+module _ {pattern text numbers : List ℕ} {run : Option AfterRun} (next : AfterRun) (s : Searching pattern text numbers next.text.now run) where
+  -- A new run takes the place of the one before: where a later try after that one succeeds, some suffix of what is left does.
+  pub search_run : numbers ≡ 256 ∷ next.pattern.now → Searching pattern text next.pattern.now next.text.now (Some next)
+  unfolding later_try matches
+  search_run is = record {
+    inside_pattern = omega (arith, ap length is, s.inside_pattern);
+    inside_again = omega (arith, ap length is, s.inside_pattern);
+    inside_text = omega arith;
+    same = sym (suffix_from test next.text.now) ∙ sym here ∙ sym (or_covered _ _ (λ l. here ∙ enough l)) ∙ s.same;
+    covered = λ l. suffix_from test next.text.now ∙ or_right (test next.text.now) _ l;
+  }
     where
-      left : List ℕ → Bool
-      left = matches (drop p pattern)
+      test : List ℕ → Bool
+      test = matches next.pattern.now
 
-      end : drop t text ≡ []
-      end = drop_all t text h
+      first : matches numbers ≡ some_suffix test
+      first = ap matches is ∙ fun_ext (λ t. refl)
 
-      at_end : some_suffix left (drop t text) ≡ true → left (drop t text) ≡ true
-      at_end l = ap left end ∙ sym (ap (some_suffix left) end) ∙ l
+      here : matches numbers next.text.now ≡ some_suffix test next.text.now
+      here = ap (λ f. f next.text.now) first
+
+      enough : later_try run ≡ true → some_suffix test next.text.now ≡ true
+      enough l = suffix_twice test next.text.now (sym (ap (λ f. some_suffix f next.text.now) first) ∙ s.covered l)

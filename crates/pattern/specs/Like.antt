@@ -1,7 +1,7 @@
 -- What it means that a pattern matches a text.
 -- A pattern is a list of numbers: 256 stands for any run of bytes, also the empty one, and any other number for itself.
 -- A text is a list of bytes, so a number above 256 matches nothing.
-use Rattle.std.specs.Prelude.{ℕ, Bool, true, false, cond, ◌&&◌, ◌||◌, List, [], ◌∷◌, length, ◌==◌, nat_lt, slice_index}
+use Rattle.std.specs.Prelude.{ℕ, Bool, true, false, cond, ◌&&◌, ◌||◌, List, [], ◌∷◌, ◌==◌}
 
 -- The text is empty.
 unfoldable pub is_empty : List ℕ → Bool
@@ -22,7 +22,3 @@ begins_with c test (b ∷ t) = c == b && test t
 unfoldable pub matches : List ℕ → List ℕ → Bool
 matches [] t = is_empty t
 matches (c ∷ p) t = cond (c == 256) (some_suffix (matches p) t) (begins_with c (matches p) t)
-
--- The number stands at the place p of the pattern.
-abbrev pub stands_at : ℕ → ℕ → List ℕ → Bool
-stands_at number p pattern = nat_lt p (length pattern) && slice_index pattern p == number

@@ -1,14 +1,14 @@
-ghost use Rattle.std.specs.Prelude.{◌≡◌, []};
-ghost use Rattle.pattern.specs.Like.{matches, stands_at};
+ghost use Rattle.std.specs.Prelude.{◌≡◌, ◌≢◌, ℕ, List, ◌∷◌, MatchOption};
+ghost use Rattle.pattern.specs.Like.{matches};
 
 // The number in a pattern that stands for any run of bytes, also the empty one.
 pub const ANY_RUN: u16 = 256;
 
-// A place in the pattern, and the place in the text from which it is tried.
+// What follows a run in the pattern, and the text from which it is tried.
 #[derive(Clone, Copy)]
-struct Place {
-    pattern: usize,
-    text: usize,
+struct AfterRun<'p, 't> {
+    pattern: &'p [u16],
+    text: &'t [u8],
 }
 
 // Whether a pattern matches a whole text.
@@ -17,48 +17,39 @@ struct Place {
 pub fn wildcard_match(pattern: &[u16], text: &[u8]) -> bool
     ensures { result ≡ matches pattern.now text.now }
 {
-    let mut p = 0;
-    let mut t = 0;
-    let mut after_run: Option<Place> = None;
-    while t < text.len() {
-        if has_at(pattern, p, ANY_RUN) {
-            p += 1;
-            after_run = Some(Place {
-                pattern: p,
-                text: t,
+    let mut numbers = pattern;
+    let mut bytes = text;
+    let mut after_run: Option<AfterRun> = None;
+    while let [byte, rest @ ..] = bytes {
+        if let Some(more) = after(ANY_RUN, numbers) {
+            numbers = more;
+            after_run = Some(AfterRun {
+                pattern: numbers,
+                text: bytes,
             });
-        } else if has_at(pattern, p, u16::from(text[t])) {
-            p += 1;
-            t += 1;
-        } else if let Some(place) = after_run {
-            p = place.pattern;
-            t = place.text + 1;
-            after_run = Some(Place {
-                pattern: p,
-                text: t,
+        } else if let Some(more) = after(u16::from(*byte), numbers) {
+            numbers = more;
+            bytes = rest;
+        } else if let Some(run) = after_run {
+            numbers = run.pattern;
+            bytes = &run.text[1..];
+            after_run = Some(AfterRun {
+                pattern: numbers,
+                text: bytes,
             });
         } else {
             return false;
         }
     }
-    matches_empty(&pattern[p..])
+    numbers.iter().all(|number| *number == ANY_RUN)
 }
 
-// Whether the pattern goes on to the place p, and has this number there.
-fn has_at(pattern: &[u16], p: usize, number: u16) -> bool
-    ensures { result ≡ stands_at number p pattern.now }
+// What follows this number in a pattern that begins with it.
+fn after(number: u16, pattern: &[u16]) -> Option<&[u16]>
+    ensures { MatchOption result ((more : List ℕ) → pattern.now ≢ number ∷ more) (λ more. pattern.now ≡ number ∷ more.now) }
 {
-    p < pattern.len() && pattern[p] == number
-}
-
-// Whether a pattern matches the empty text: it holds runs only.
-fn matches_empty(pattern: &[u16]) -> bool
-    ensures { result ≡ matches pattern.now [] }
-{
-    for number in pattern {
-        if *number != ANY_RUN {
-            return false;
-        }
+    match pattern {
+        [first, more @ ..] if *first == number => Some(more),
+        _ => None,
     }
-    true
 }

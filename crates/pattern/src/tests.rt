@@ -72,8 +72,8 @@ fn a_number_above_a_run_matches_nothing(rt: HostRuntime) {
 #[test]
 fn many_runs_over_a_long_text(rt: HostRuntime) -> Result<(), Fail> {
     let mut pattern = [ANY_RUN; 201];
-    for i in 0..100 {
-        pattern[2 * i] = LOWER_A;
+    for pair in pattern.chunks_exact_mut(2) {
+        pair[0] = LOWER_A;
     }
     let text = [97; 20000];
     assert!(rt; wildcard_match(&pattern, &text));

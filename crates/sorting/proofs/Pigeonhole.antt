@@ -4,7 +4,6 @@ use Rattle.std.proofs.lemmas.Bool.{eqb-true, eqb-false}
 use Rattle.std.specs.List.{AllByRecursion}
 use Rattle.sorting.specs.Orders.{In, Ascending}
 use Rattle.sorting.proofs.Lists.{all_in, in_all}
-use Rattle.sorting.proofs.Orders.{less_not_equal}
 
 module _ {A : Type 0} (f : A → ℕ) where
   -- No two elements have the same number.
@@ -68,7 +67,7 @@ module _ {A : Type 0} (f : A → ℕ) where
   ascending_apart : (cmp : A → A → Ordering) (xs : List A) → ((x y : A) → In x xs → In y xs → f x ≡ f y → cmp x y ≡ Equal) → Ascending cmp xs → Apart xs
   ascending_apart cmp [] same h = tt
   ascending_apart cmp (x ∷ xs) same h = (
-    all_in (λ y. f x ≡ f y → ⊥) xs (λ y k e. less_not_equal (cmp x y) (in_all _ xs h.0 y k) (same x y (inl refl) (inr k) e)),
+    all_in (λ y. f x ≡ f y → ⊥) xs (λ y k e. cc (in_all _ xs h.0 y k, same x y (inl refl) (inr k) e)),
     ascending_apart cmp xs (λ y z k l. same y z (inr k) (inr l)) h.1,
   )
 

@@ -1,29 +1,31 @@
-use Rattle.std.proofs.Common.{[], sym, ap, ◌∙◌}
-use Rattle.std.proofs.lemmas.List.{take_rest}
-use Rattle.pattern.specs.Like.{matches}
-use Rattle.pattern.proofs.Search.{search_begins, search_run, run_less, search_byte, search_back, search_fails, search_ends}
+use Rattle.std.proofs.Common.{eqb, refl, ◌∙◌, rules, tests, arith}
+use Rattle.std.proofs.lemmas.List.{take_rest, drop_all}
+use Rattle.std.proofs.lemmas.Iterator.{YieldsList-from_slice}
+use Rattle.std.proofs.lemmas.Iterator.Search.{all_from_yields_List}
+use Rattle.pattern.proofs.Search.{search_begins, search_run, search_byte, search_back, search_fails, search_ends, all_runs}
 use Rattle.pattern.proofs.like.wildcard_match.Goals as goal
 
-pub loop-t-init : goal.loop-t-init
-loop-t-init c = search_begins c.args.pattern.now c.args.text.now
+pub loop-bytes-init : goal.loop-bytes-init
+loop-bytes-init c = search_begins c.args.pattern.now c.args.text.now
 
-pub loop-t-smaller-then-has_at : goal.loop-t-smaller-then-has_at
-loop-t-smaller-then-has_at c = run_less c.loop-t.invariant (sym c.if-has_at.ensures)
+pub loop-bytes-preserved-in-Some : goal.loop-bytes-preserved-in-Some
+loop-bytes-preserved-in-Some c = search_run _ c.loop-bytes.invariant c.in-Some.ensures
 
-pub loop-t-preserved-then-has_at : goal.loop-t-preserved-then-has_at
-loop-t-preserved-then-has_at c = search_run c.loop-t.invariant (sym c.if-has_at.ensures)
+pub loop-bytes-preserved-in-Some-after : goal.loop-bytes-preserved-in-Some-after
+loop-bytes-preserved-in-Some-after c =
+    search_byte c.loop-bytes.invariant c.in-len1-up.len_at_least c.from.ensures c.in_default-after.ensures c.in-Some-after.more.now c.in-Some-after.ensures
 
-pub loop-t-preserved-then-has_at-2 : goal.loop-t-preserved-then-has_at-2
-loop-t-preserved-then-has_at-2 c = search_byte c.loop-t.invariant c.loop-t-test.true (sym c.if-has_at.ensures) c.from.ensures (sym c.if-has_at-2.ensures)
+pub loop-bytes-preserved : goal.loop-bytes-preserved
+loop-bytes-preserved c =
+    search_back c.loop-bytes.invariant c.in-len1-up.len_at_least c.from.ensures c.in_default-after.ensures c.in_default-after-2.ensures
+    c.in-Some-after_run.run' _ c.in-Some-after_run.is refl (take_rest c.in-Some-after_run.run'.text.now 1)
 
-pub loop-t-preserved : goal.loop-t-preserved
-loop-t-preserved c =
-    search_back c.loop-t.invariant c.loop-t-test.true (sym c.if-has_at.ensures) c.from.ensures (sym c.if-has_at-2.ensures) c.in-Some.place c.in-Some.is
-
-pub returns-in_default : goal.returns-in_default
-returns-in_default c =
-    search_fails c.loop-t.invariant c.loop-t-test.true (sym c.if-has_at.ensures) c.from.ensures (sym c.if-has_at-2.ensures) c.in_default.is
+pub returns-in_default-after_run : goal.returns-in_default-after_run
+returns-in_default-after_run c =
+    search_fails c.loop-bytes.invariant c.in-len1-up.len_at_least c.from.ensures c.in_default-after.ensures c.in_default-after-2.ensures c.in_default-after_run.is
 
 pub returns : goal.returns
 returns c =
-    c.matches_empty.ensures ∙ ap (λ p. matches p []) (take_rest c.args.pattern.now c.loop-t.p) ∙ search_ends c.loop-t.invariant c.loop-t-test.false
+    let numbers = c.loop-bytes.numbers.now in
+    let ended = all_from_yields_List (λ n. eqb n 256) _ _ c.all.result c.all.ensures.ran (YieldsList-from_slice numbers cc) (λ x b q k. search (rules, tests)) in
+    ended ∙ all_runs numbers ∙ search_ends c.loop-bytes.invariant (drop_all 0 c.loop-bytes.bytes.now (omega arith))
