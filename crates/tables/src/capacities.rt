@@ -1,5 +1,5 @@
 ghost use Rattle.std.specs.Prelude.{◌≡◌};
-ghost use Rattle.tables.specs.Ranges.{in_range};
+ghost use Rattle.tables.specs.Ranges.{between, in_range};
 
 // How many cells each table has; `bytes` are those of all names together.
 #[derive(Clone, Copy, PartialEq, Eq, Debug)]
@@ -10,6 +10,12 @@ pub struct Capacities {
     pub bytes: usize,
     pub lists: usize,
     pub rows: usize,
+}
+
+fn within(low: usize, high: usize, n: usize) -> bool
+    ensures { result ≡ between low high n }
+{
+    (low..=high).contains(&n)
 }
 
 impl Capacities {
@@ -38,11 +44,11 @@ impl Capacities {
     pub(crate) fn in_range(self) -> bool
         ensures { result ≡ in_range self }
     {
-        (2..=4096).contains(&self.terms)
-            && (1..=512).contains(&self.types)
-            && (2..=1024).contains(&self.names)
-            && (9..=16384).contains(&self.bytes)
-            && (0..=8192).contains(&self.lists)
-            && (0..=200).contains(&self.rows)
+        within(2, 4096, self.terms)
+            && within(1, 512, self.types)
+            && within(2, 1024, self.names)
+            && within(9, 16384, self.bytes)
+            && within(0, 8192, self.lists)
+            && within(0, 200, self.rows)
     }
 }
