@@ -20,3 +20,11 @@ abbrev pub Smaller : Capacities → Capacities → Type 0
 Smaller c d =
     (c.terms ≤ d.terms) × (c.types ≤ d.types) × (c.names ≤ d.names)
     × (c.bytes ≤ d.bytes) × (c.lists ≤ d.lists) × (c.rows ≤ d.rows)
+
+-- The capacities of the tables that hold cells are at most what they may be.
+pub record IsLimited (c : Capacities) : Type 0 where
+  pub terms : c.terms ≤ 4096
+  pub types : c.types ≤ 512
+  pub names : c.names ≤ 1024
+  pub bytes : c.bytes ≤ 16384
+  pub lists : c.lists ≤ 8192

@@ -1,4 +1,5 @@
 ghost use Rattle.std.specs.Prelude.{◌≡◌};
+ghost use Rattle.tables.specs.Ranges.{Smaller, IsLimited};
 ghost use Rattle.tables.specs.Contents.{in_use};
 
 use crate::capacities::*;
@@ -7,7 +8,8 @@ use crate::storage::*;
 impl Tables {
     // The capacities that the tables were opened with.
     pub fn capacities(&self) -> Capacities
-        ensures { result ≡ self.now.capacities }
+        ensures value { result ≡ self.now.capacities }
+        ensures limited { IsLimited result }
     {
         Capacities {
             terms: self.terms.capacity,
@@ -21,7 +23,8 @@ impl Tables {
 
     // How many cells of each table are in use.
     pub fn in_use(&self) -> Capacities
-        ensures { result ≡ in_use self.now }
+        ensures value { result ≡ in_use self.now }
+        ensures fits { Smaller result self.now.capacities }
     {
         Capacities {
             terms: self.terms.held.len(),

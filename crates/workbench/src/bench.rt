@@ -5,6 +5,7 @@ ghost use Rattle.tables.specs.Kinds.{Now};
 ghost use Rattle.tables.specs.Calls.{name_call, type_call};
 ghost use Rattle.laws.specs.Sound.{HeldOnce};
 ghost use Rattle.workbench.specs.Runs.{call_of, step};
+ghost use Rattle.workbench.specs.Reached.{Reached};
 
 use crate::calls::*;
 use std::alloc::Global;
@@ -94,10 +95,11 @@ impl<S> Workbench<S> {
         self.tables.enter_type(t)
     }
 
-    // What the workbench holds: each structure under one number.
+    // What the workbench holds: the tables of some run, with each structure under one number.
     #[tactic(auto, using(crate::proofs::LawOfRuns::held_once))]
     pub fn tables(&self) -> &Tables
         ensures value { result.now ≡ self.now }
+        ensures reached { Reached result.now }
         ensures once { HeldOnce result.now }
     {
         &self.tables
