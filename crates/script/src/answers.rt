@@ -1,7 +1,7 @@
 // Answers, and how they are written.
+use crate::fault::Bad;
 use crate::print_types::push_type;
 use crate::printer::*;
-use crate::reader::Bad;
 use std::alloc::AllocError;
 use tables::capacities::*;
 use tables::ids::*;

@@ -8,48 +8,13 @@
 ghost use Rattle.std.specs.Prelude.{◌≡◌};
 ghost use Rattle.script.specs.Skipped.{blank, skipped};
 
+use crate::fault::*;
 use crate::form::{FormId, Line, Shape};
-use std::alloc::{AllocError, AllocFailed, Global};
+use std::alloc::Global;
 
 pub const MAX_DEPTH: usize = 500;
 
 const NO_DIGIT: &str = "an escape without two digits of 0-9a-f";
-
-// Where a line stops being one: the column, from 1, of the first byte that no line has there, or the
-// column past the last byte where more is missing.
-#[derive(Clone, Copy, PartialEq, Eq, Debug)]
-pub struct Bad {
-    pub column: usize,
-    pub message: &'static str,
-}
-
-#[derive(Clone, Copy, PartialEq, Eq, Debug)]
-pub enum ReadError {
-    Bad(Bad),
-    NoMemory,
-}
-
-impl From<Bad> for ReadError {
-    fn from(bad: Bad) -> ReadError {
-        ReadError::Bad(bad)
-    }
-}
-
-impl From<AllocError> for ReadError {
-    fn from(_e: AllocError) -> ReadError {
-        ReadError::NoMemory
-    }
-}
-
-impl<T: Drop> From<AllocFailed<T>> for ReadError {
-    fn from(_e: AllocFailed<T>) -> ReadError {
-        ReadError::NoMemory
-    }
-}
-
-fn refuse(column: usize, message: &'static str) -> ReadError {
-    ReadError::Bad(Bad { column, message })
-}
 
 fn is_blank(byte: u8) -> bool
     ensures { result ≡ blank byte }
@@ -130,14 +95,14 @@ impl Reader {
     }
 
     // A form may begin within a list, or as the only one of its line.
-    fn check_place(&self, column: usize) -> Result<(), ReadError> {
+    fn check_place(&self, column: usize) -> Result<(), Fault> {
         if self.open.is_empty() && !self.line.is_empty() {
-            return Err(refuse(column, "a second form on the line"));
+            return Err(Fault::bad(column, "a second form on the line"));
         }
         Ok(())
     }
 
-    fn begin(&mut self, column: usize, mode: Mode) -> Result<(), ReadError> {
+    fn begin(&mut self, column: usize, mode: Mode) -> Result<(), Fault> {
         self.check_place(column)?;
         self.mode = mode;
         self.column = column;
@@ -146,17 +111,17 @@ impl Reader {
     }
 
     // Adds the atom or text at hand, whose bytes are all there.
-    fn end(&mut self, shape: Shape) -> Result<(), ReadError> {
+    fn end(&mut self, shape: Shape) -> Result<(), Fault> {
         let id = self.line.push_form(shape, self.column, self.start)?;
         self.attach(id);
         self.mode = Mode::Between;
         Ok(())
     }
 
-    fn open_list(&mut self, column: usize) -> Result<(), ReadError> {
+    fn open_list(&mut self, column: usize) -> Result<(), Fault> {
         self.check_place(column)?;
         if self.open.len() >= MAX_DEPTH {
-            return Err(refuse(column, "nested too deep"));
+            return Err(Fault::bad(column, "nested too deep"));
         }
         let list = self.line.push_form(Shape::List, column, self.line.mark())?;
         self.attach(list);
@@ -164,14 +129,14 @@ impl Reader {
         Ok(())
     }
 
-    fn close_list(&mut self, column: usize) -> Result<(), ReadError> {
+    fn close_list(&mut self, column: usize) -> Result<(), Fault> {
         match self.open.pop() {
             Some(_) => Ok(()),
-            None => Err(refuse(column, "a closing parenthesis too many")),
+            None => Err(Fault::bad(column, "a closing parenthesis too many")),
         }
     }
 
-    fn between(&mut self, column: usize, byte: u8) -> Result<(), ReadError> {
+    fn between(&mut self, column: usize, byte: u8) -> Result<(), Fault> {
         match byte {
             b' ' | b'\t' | b'\r' => Ok(()),
             b'(' => self.open_list(column),
@@ -184,12 +149,12 @@ impl Reader {
         }
     }
 
-    fn keep(&mut self, byte: u8) -> Result<(), ReadError> {
+    fn keep(&mut self, byte: u8) -> Result<(), Fault> {
         self.line.push_byte(byte)?;
         Ok(())
     }
 
-    fn in_atom(&mut self, column: usize, byte: u8) -> Result<(), ReadError> {
+    fn in_atom(&mut self, column: usize, byte: u8) -> Result<(), Fault> {
         if is_blank(byte) || matches!(byte, b'(' | b')' | b'"') {
             self.end(Shape::Atom)?;
             return self.between(column, byte);
@@ -197,7 +162,7 @@ impl Reader {
         self.keep(byte)
     }
 
-    fn in_text(&mut self, byte: u8) -> Result<(), ReadError> {
+    fn in_text(&mut self, byte: u8) -> Result<(), Fault> {
         match byte {
             b'"' => self.end(Shape::Text),
             b'\\' => {
@@ -208,31 +173,31 @@ impl Reader {
         }
     }
 
-    fn in_escape(&mut self, column: usize, byte: u8) -> Result<(), ReadError> {
+    fn in_escape(&mut self, column: usize, byte: u8) -> Result<(), Fault> {
         if byte != b'x' {
-            return Err(refuse(column, "an escape other than \\x"));
+            return Err(Fault::bad(column, "an escape other than \\x"));
         }
         self.mode = Mode::HighDigit;
         Ok(())
     }
 
-    fn high_digit(&mut self, column: usize, byte: u8) -> Result<(), ReadError> {
+    fn high_digit(&mut self, column: usize, byte: u8) -> Result<(), Fault> {
         let Some(high) = hex_digit(byte) else {
-            return Err(refuse(column, NO_DIGIT));
+            return Err(Fault::bad(column, NO_DIGIT));
         };
         self.mode = Mode::LowDigit(high);
         Ok(())
     }
 
-    fn low_digit(&mut self, column: usize, high: u8, byte: u8) -> Result<(), ReadError> {
+    fn low_digit(&mut self, column: usize, high: u8, byte: u8) -> Result<(), Fault> {
         let Some(low) = hex_digit(byte) else {
-            return Err(refuse(column, NO_DIGIT));
+            return Err(Fault::bad(column, NO_DIGIT));
         };
         self.mode = Mode::Text;
         self.keep(high << 4 | low)
     }
 
-    fn step(&mut self, column: usize, byte: u8) -> Result<(), ReadError> {
+    fn step(&mut self, column: usize, byte: u8) -> Result<(), Fault> {
         match self.mode {
             Mode::Between => self.between(column, byte),
             Mode::Atom => self.in_atom(column, byte),
@@ -244,23 +209,23 @@ impl Reader {
     }
 
     // Ends the line, at the column past its last byte.
-    fn finish(&mut self, column: usize) -> Result<(), ReadError> {
+    fn finish(&mut self, column: usize) -> Result<(), Fault> {
         match self.mode {
             Mode::Between => {}
             Mode::Atom => self.end(Shape::Atom)?,
-            _ => return Err(refuse(column, "a string is not closed")),
+            _ => return Err(Fault::bad(column, "a string is not closed")),
         }
         if !self.open.is_empty() {
-            return Err(refuse(column, "a parenthesis is not closed"));
+            return Err(Fault::bad(column, "a parenthesis is not closed"));
         }
         if self.line.is_empty() {
-            return Err(refuse(column, "no form on the line"));
+            return Err(Fault::bad(column, "no form on the line"));
         }
         Ok(())
     }
 }
 
-pub fn read_line(heap: Global, line: &[u8]) -> Result<Line, ReadError> {
+pub fn read_line(heap: Global, line: &[u8]) -> Result<Line, Fault> {
     let mut reader = Reader::new(heap);
     for (i, byte) in line.iter().enumerate() {
         reader.step(i.saturating_add(1), *byte)?;

@@ -1,7 +1,7 @@
 // The requests, one to a line.
+use crate::fault::*;
 use crate::form::*;
 use crate::parts::*;
-use crate::reader::*;
 use crate::steps::*;
 use std::alloc::Global;
 use tables::capacities::*;
@@ -19,7 +19,7 @@ pub enum Request {
 }
 
 // The six numbers that follow the word `open`.
-fn read_capacities(line: &Line, list: FormId, open: FormId) -> Result<Capacities, Bad> {
+fn read_capacities(line: &Line, list: FormId, open: FormId) -> Result<Capacities, Fault> {
     let mut numbers = [0; 6];
     let mut last = open;
     for place in numbers.iter_mut() {
@@ -38,23 +38,23 @@ fn read_capacities(line: &Line, list: FormId, open: FormId) -> Result<Capacities
     })
 }
 
-fn read_name(line: &Line, list: FormId, word: FormId) -> Result<FormId, Bad> {
+fn read_name(line: &Line, list: FormId, word: FormId) -> Result<FormId, Fault> {
     let name = last_after(line, list, word)?;
     check_name(line, name)?;
     Ok(name)
 }
 
-fn read_number(line: &Line, list: FormId, word: FormId) -> Result<u64, Bad> {
+fn read_number(line: &Line, list: FormId, word: FormId) -> Result<u64, Fault> {
     number(line, last_after(line, list, word)?)
 }
 
 // A request with no argument.
-fn alone(line: &Line, word: FormId, request: Request) -> Result<Request, Bad> {
+fn alone(line: &Line, word: FormId, request: Request) -> Result<Request, Fault> {
     check_last(line, word)?;
     Ok(request)
 }
 
-fn read_word(line: &Line, list: FormId) -> Result<FormId, Bad> {
+fn read_word(line: &Line, list: FormId) -> Result<FormId, Fault> {
     if line.shape(list) != Shape::List {
         return Err(bad_at(line, list, "no request"));
     }
@@ -65,7 +65,7 @@ fn read_word(line: &Line, list: FormId) -> Result<FormId, Bad> {
     Ok(word)
 }
 
-pub fn read_request(heap: Global, line: &Line) -> Result<Request, ReadError> {
+pub fn read_request(heap: Global, line: &Line) -> Result<Request, Fault> {
     let list = line.root();
     let word = read_word(line, list)?;
     match line.bytes(word) {
@@ -80,6 +80,6 @@ pub fn read_request(heap: Global, line: &Line) -> Result<Request, ReadError> {
         b"show-type" => Ok(Request::ShowType(read_number(line, list, word)?)),
         b"counts" => Ok(alone(line, word, Request::Counts)?),
         b"capacities" => Ok(alone(line, word, Request::Capacities)?),
-        _ => Err(ReadError::Bad(bad_at(line, word, "an unknown request"))),
+        _ => Err(bad_at(line, word, "an unknown request")),
     }
 }

@@ -1,8 +1,9 @@
 // A type of a line, checked, as the steps that enter it: the parts of a type come before it.
+use crate::fault::*;
 use crate::fields::*;
 use crate::form::*;
 use crate::parts::*;
-use crate::reader::*;
+use crate::reader::MAX_DEPTH;
 use std::alloc::Global;
 use tables::term_type::*;
 
@@ -54,7 +55,7 @@ pub enum Step {
     Record(usize),
 }
 
-fn read_basic(line: &Line, id: FormId) -> Result<Step, Bad> {
+fn read_basic(line: &Line, id: FormId) -> Result<Step, Fault> {
     match Basic::read(line.bytes(id)) {
         Some(basic) => Ok(Step::Basic(basic)),
         None => Err(bad_at(line, id, "an unknown type")),
@@ -69,13 +70,13 @@ fn push_type(
     id: FormId,
     depth: usize,
     steps: &mut Vec<Step>,
-) -> Result<(), ReadError> {
+) -> Result<(), Fault> {
     match line.shape(id) {
         Shape::Atom => steps.push(read_basic(line, id)?)?,
-        Shape::Text => return Err(ReadError::Bad(bad_at(line, id, "no type"))),
+        Shape::Text => return Err(bad_at(line, id, "no type")),
         Shape::List => {
             let Some(depth) = depth.checked_sub(1) else {
-                return Err(ReadError::Bad(bad_at(line, id, "nested too deep")));
+                return Err(bad_at(line, id, "nested too deep"));
             };
             push_list(heap, line, id, depth, steps)?;
         }
@@ -90,7 +91,7 @@ fn push_list(
     id: FormId,
     depth: usize,
     steps: &mut Vec<Step>,
-) -> Result<(), ReadError> {
+) -> Result<(), Fault> {
     let head = head(line, id)?;
     if line.is_atom(head, "entity") {
         let name = last_after(line, id, head)?;
@@ -105,7 +106,7 @@ fn push_list(
     } else if line.is_atom(head, "record") {
         push_record(heap, line, id, depth, steps)?;
     } else {
-        return Err(ReadError::Bad(bad_at(line, head, "an unknown type")));
+        return Err(bad_at(line, head, "an unknown type"));
     }
     Ok(())
 }
@@ -117,7 +118,7 @@ fn push_record(
     id: FormId,
     depth: usize,
     steps: &mut Vec<Step>,
-) -> Result<(), ReadError> {
+) -> Result<(), Fault> {
     let fields = read_fields(heap, line, id)?;
     for field in fields.iter() {
         steps.push(Step::FieldName(field.name))?;
@@ -127,7 +128,7 @@ fn push_record(
     Ok(())
 }
 
-pub fn read_type(heap: Global, line: &Line, id: FormId) -> Result<Vec<Step>, ReadError> {
+pub fn read_type(heap: Global, line: &Line, id: FormId) -> Result<Vec<Step>, Fault> {
     let mut steps = Vec::new(heap);
     push_type(heap, line, id, MAX_DEPTH, &mut steps)?;
     Ok(steps)
