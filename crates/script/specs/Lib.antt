@@ -1,6 +1,6 @@
 pub mod Decimal
+pub mod Forms
 pub mod Held
 pub mod Print
 pub mod Sessions
 pub mod Skipped
-pub mod Walk

@@ -1,4 +1,4 @@
-// Writes a type of a workbench as `steps` reads it.
+// Writes a type of a workbench as `types` reads it.
 use crate::printer::*;
 use std::alloc::AllocError;
 use tables::ids::*;

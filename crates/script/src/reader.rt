@@ -1,4 +1,4 @@
-// Reads a line, byte by byte, into the arena of `form`.
+// Reads a line, byte by byte, into the tree of `form`.
 //
 // A line is one form, with only blanks (space, tab, CR) around it. A form is a list, forms between
 // parentheses; a text, bytes between quotes; or an atom, a longest run of bytes that are no blank,
@@ -9,8 +9,9 @@ ghost use Rattle.std.specs.Prelude.{◌≡◌};
 ghost use Rattle.script.specs.Skipped.{blank, skipped};
 
 use crate::fault::*;
-use crate::form::{FormId, Line, Shape};
+use crate::form::*;
 use std::alloc::Global;
+use std::mem;
 
 pub const MAX_DEPTH: usize = 500;
 
@@ -54,49 +55,41 @@ enum Mode {
     LowDigit(u8),
 }
 
-// A list whose closing parenthesis is still to come, with the last of its children so far.
-#[derive(Clone, Copy)]
+// A list whose closing parenthesis is still to come, with its parts so far.
+#[derive(Drop)]
 struct Open {
-    list: FormId,
-    last: Option<FormId>,
+    column: usize,
+    parts: Vec<Form>,
 }
 
 #[derive(Drop)]
 struct Reader {
-    line: Line,
+    heap: Global,
+    // The form of the line, once it is whole.
+    form: Option<Form>,
+    // The innermost list is the last.
     open: Vec<Open>,
     mode: Mode,
-    // Where the atom or text at hand begins, in the text and in the line's bytes.
+    // Where the atom or text at hand begins, and its bytes so far.
     column: usize,
-    start: usize,
+    bytes: Vec<u8>,
 }
 
 impl Reader {
     fn new(heap: Global) -> Reader {
         Reader {
-            line: Line::new(heap),
+            heap,
+            form: None,
             open: Vec::new(heap),
             mode: Mode::Between,
             column: 0,
-            start: 0,
+            bytes: Vec::new(heap),
         }
-    }
-
-    // Makes `child` the last child of the innermost open list.
-    fn attach(&mut self, child: FormId) {
-        let Some(open) = self.open.last_mut() else {
-            return;
-        };
-        match open.last {
-            Some(last) => self.line.set_next(last, child),
-            None => self.line.set_first(open.list, child),
-        }
-        open.last = Some(child);
     }
 
     // A form may begin within a list, or as the only one of its line.
     fn check_place(&self, column: usize) -> Result<(), Fault> {
-        if self.open.is_empty() && !self.line.is_empty() {
+        if self.open.is_empty() && self.form.is_some() {
             return Err(Fault::bad(column, "a second form on the line"));
         }
         Ok(())
@@ -106,16 +99,33 @@ impl Reader {
         self.check_place(column)?;
         self.mode = mode;
         self.column = column;
-        self.start = self.line.mark();
         Ok(())
     }
 
-    // Adds the atom or text at hand, whose bytes are all there.
-    fn end(&mut self, shape: Shape) -> Result<(), Fault> {
-        let id = self.line.push_form(shape, self.column, self.start)?;
-        self.attach(id);
-        self.mode = Mode::Between;
+    // Adds a whole form to the innermost open list, or as that of the line.
+    fn add(&mut self, column: usize, content: Content) -> Result<(), Fault> {
+        let form = Form { column, content };
+        match self.open.last_mut() {
+            Some(list) => list.parts.push(form)?,
+            None => self.form = Some(form),
+        }
         Ok(())
+    }
+
+    // The bytes of the atom or text at hand, which are all there.
+    fn end(&mut self) -> Vec<u8> {
+        self.mode = Mode::Between;
+        mem::replace(&mut self.bytes, Vec::new(self.heap))
+    }
+
+    fn end_atom(&mut self) -> Result<(), Fault> {
+        let bytes = self.end();
+        self.add(self.column, Content::Atom(bytes))
+    }
+
+    fn end_text(&mut self) -> Result<(), Fault> {
+        let bytes = self.end();
+        self.add(self.column, Content::Text(bytes))
     }
 
     fn open_list(&mut self, column: usize) -> Result<(), Fault> {
@@ -123,17 +133,16 @@ impl Reader {
         if self.open.len() >= MAX_DEPTH {
             return Err(Fault::bad(column, "nested too deep"));
         }
-        let list = self.line.push_form(Shape::List, column, self.line.mark())?;
-        self.attach(list);
-        self.open.push(Open { list, last: None })?;
+        let parts = Vec::new(self.heap);
+        self.open.push(Open { column, parts })?;
         Ok(())
     }
 
     fn close_list(&mut self, column: usize) -> Result<(), Fault> {
-        match self.open.pop() {
-            Some(_) => Ok(()),
-            None => Err(Fault::bad(column, "a closing parenthesis too many")),
-        }
+        let Some(Open { column, parts }) = self.open.pop() else {
+            return Err(Fault::bad(column, "a closing parenthesis too many"));
+        };
+        self.add(column, Content::List(parts))
     }
 
     fn between(&mut self, column: usize, byte: u8) -> Result<(), Fault> {
@@ -150,13 +159,13 @@ impl Reader {
     }
 
     fn keep(&mut self, byte: u8) -> Result<(), Fault> {
-        self.line.push_byte(byte)?;
+        self.bytes.push(byte)?;
         Ok(())
     }
 
     fn in_atom(&mut self, column: usize, byte: u8) -> Result<(), Fault> {
         if is_blank(byte) || matches!(byte, b'(' | b')' | b'"') {
-            self.end(Shape::Atom)?;
+            self.end_atom()?;
             return self.between(column, byte);
         }
         self.keep(byte)
@@ -164,7 +173,7 @@ impl Reader {
 
     fn in_text(&mut self, byte: u8) -> Result<(), Fault> {
         match byte {
-            b'"' => self.end(Shape::Text),
+            b'"' => self.end_text(),
             b'\\' => {
                 self.mode = Mode::Escape;
                 Ok(())
@@ -208,29 +217,25 @@ impl Reader {
         }
     }
 
-    // Ends the line, at the column past its last byte.
-    fn finish(&mut self, column: usize) -> Result<(), Fault> {
+    // The form of the line, which ends at the column past its last byte.
+    fn finish(mut self, column: usize) -> Result<Form, Fault> {
         match self.mode {
             Mode::Between => {}
-            Mode::Atom => self.end(Shape::Atom)?,
+            Mode::Atom => self.end_atom()?,
             _ => return Err(Fault::bad(column, "a string is not closed")),
         }
         if !self.open.is_empty() {
             return Err(Fault::bad(column, "a parenthesis is not closed"));
         }
-        if self.line.is_empty() {
-            return Err(Fault::bad(column, "no form on the line"));
-        }
-        Ok(())
+        let Reader { form, .. } = self;
+        form.ok_or(Fault::bad(column, "no form on the line"))
     }
 }
 
-pub fn read_line(heap: Global, line: &[u8]) -> Result<Line, Fault> {
+pub fn read_line(heap: Global, line: &[u8]) -> Result<Form, Fault> {
     let mut reader = Reader::new(heap);
-    for (i, byte) in line.iter().enumerate() {
-        reader.step(i.saturating_add(1), *byte)?;
+    for (column, byte) in (1..).zip(line) {
+        reader.step(column, *byte)?;
     }
-    reader.finish(line.len().saturating_add(1))?;
-    let Reader { line, .. } = reader;
-    Ok(line)
+    reader.finish(line.len().saturating_add(1))
 }

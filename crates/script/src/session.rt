@@ -7,7 +7,6 @@ use crate::answers::*;
 use crate::enter::enter_type;
 use crate::fault::*;
 use crate::form::*;
-use crate::parts::bad_at;
 use crate::printer::*;
 use crate::reader::*;
 use crate::request::*;
@@ -72,7 +71,7 @@ impl Session {
         }
     }
 
-    fn carry_out(&mut self, line: &Line, request: Request) -> Result<Answer, Fault>
+    fn carry_out(&mut self, line: &Form, request: Request) -> Result<Answer, Fault>
         ensures { OnBad result (self.new ≡ self.old) }
     {
         match request {
@@ -80,17 +79,15 @@ impl Session {
             Request::Seal => {
                 match self.state.seal() {
                     Ok(()) => Ok(Answer::Done),
-                    Err(AlreadySealed) => {
-                        Err(bad_at(line, line.root(), "the workbench is sealed"))
-                    }
+                    Err(AlreadySealed) => Err(line.bad("the workbench is sealed")),
                 }
             }
             Request::EnterName(name) => {
-                let name = self.state.name(line.bytes(name))?;
+                let name = self.state.name(name.as_bytes())?;
                 Ok(Answer::Number(name.0))
             }
-            Request::EnterType(steps) => {
-                let ty = enter_type(self.heap, &mut self.state, line, steps.as_slice())?;
+            Request::EnterType(ty) => {
+                let ty = enter_type(self.heap, &mut self.state, &ty)?;
                 Ok(Answer::Number(ty.0))
             }
             Request::ShowName(number) => {
