@@ -1,3 +1,4 @@
+pub mod Basics
 pub mod Decimal
 pub mod Forms
 pub mod Held

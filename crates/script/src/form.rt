@@ -1,5 +1,5 @@
 // A line that was read, as a tree of forms.
-ghost use Rattle.std.specs.Prelude.{◌≡◌, ◌∷◌, IfOk};
+ghost use Rattle.std.specs.Prelude.{◌≡◌, [], ◌∷◌, IfOk};
 ghost use Rattle.script.specs.Forms.{StandWithin};
 
 use crate::fault::*;
@@ -73,5 +73,12 @@ impl Form {
             Some((_, [more, ..])) => Err(more.bad("a list with a part too many")),
             None => Err(self.bad("a list with a part too few")),
         }
+    }
+    // The only one of some parts of this list.
+    pub fn only<'a>(&self, parts: &'a [Form]) -> Result<&'a Form, Fault>
+        ensures { IfOk result (λ part. parts.now ≡ part.now ∷ []) }
+    {
+        let [part] = self.exactly::<1>(parts)?;
+        Ok(part)
     }
 }

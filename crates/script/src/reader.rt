@@ -27,12 +27,9 @@ fn is_blank(byte: u8) -> bool
 pub fn is_skipped(line: &[u8]) -> bool
     ensures { result ≡ skipped line.now }
 {
-    for byte in line {
-        if !is_blank(*byte) {
-            return *byte == b';';
-        }
-    }
-    true
+    line.iter()
+        .find(|byte| !is_blank(**byte))
+        .is_none_or(|byte| *byte == b';')
 }
 
 fn hex_digit(byte: u8) -> Option<u8> {

@@ -44,28 +44,16 @@ fn alone<'a>(line: &Form, arguments: &[Form], request: Request<'a>) -> Result<Re
 
 pub fn read_request(heap: Global, line: &Form) -> Result<Request<'_>, Fault> {
     let (word, arguments) = line.parts("no request")?;
-    let name = word.atom().ok_or_else(|| word.bad("no request"))?;
-    match name {
-        b"open" => Ok(Request::Open(read_capacities(line, arguments)?)),
-        b"seal" => alone(line, arguments, Request::Seal),
-        b"enter-name" => {
-            let [name] = line.exactly::<1>(arguments)?;
-            Ok(Request::EnterName(name.name()?))
-        }
-        b"enter-type" => {
-            let [ty] = line.exactly::<1>(arguments)?;
-            Ok(Request::EnterType(read_type(heap, ty)?))
-        }
-        b"show-name" => {
-            let [number] = line.exactly::<1>(arguments)?;
-            Ok(Request::ShowName(number.number()?))
-        }
-        b"show-type" => {
-            let [number] = line.exactly::<1>(arguments)?;
-            Ok(Request::ShowType(number.number()?))
-        }
-        b"counts" => alone(line, arguments, Request::Counts),
-        b"capacities" => alone(line, arguments, Request::Capacities),
-        _ => Err(word.bad("an unknown request")),
+    match word.atom() {
+        Some(b"open") => Ok(Request::Open(read_capacities(line, arguments)?)),
+        Some(b"seal") => alone(line, arguments, Request::Seal),
+        Some(b"enter-name") => Ok(Request::EnterName(line.only(arguments)?.name()?)),
+        Some(b"enter-type") => Ok(Request::EnterType(read_type(heap, line.only(arguments)?)?)),
+        Some(b"show-name") => Ok(Request::ShowName(line.only(arguments)?.number()?)),
+        Some(b"show-type") => Ok(Request::ShowType(line.only(arguments)?.number()?)),
+        Some(b"counts") => alone(line, arguments, Request::Counts),
+        Some(b"capacities") => alone(line, arguments, Request::Capacities),
+        Some(_) => Err(word.bad("an unknown request")),
+        None => Err(word.bad("no request")),
     }
 }

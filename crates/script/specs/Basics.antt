@@ -1,0 +1,14 @@
+-- Types without parts.
+use Rattle.tables.specs.declared.term_type.TermType.{TermType}
+use Rattle.tables.specs.declared.term_type.TermType.TheVariants.{Bool as BoolT, Long as LongT, String as StringT, Decimal as DecimalT, Datetime as DatetimeT, Duration as DurationT}
+use Rattle.script.specs.declared.types.Basic.{Basic}
+use Rattle.script.specs.declared.types.Basic.TheVariants.{Bool, Long, String, Decimal, Datetime, Duration}
+
+-- The type that a workbench enters for it.
+abbrev pub basic_type : {F : Type 0} → Basic → TermType F
+basic_type Bool = BoolT
+basic_type Long = LongT
+basic_type String = StringT
+basic_type Decimal = DecimalT
+basic_type Datetime = DatetimeT
+basic_type Duration = DurationT
