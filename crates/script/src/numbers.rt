@@ -4,6 +4,7 @@ ghost use Rattle.script.specs.Decimal.{value};
 
 use std::str::from_utf8;
 
+#[tactic(auto, using(crate::proofs::Digits::parsed))]
 pub fn parse_unsigned(bytes: &[u8]) -> Option<u64>
     ensures { IfSome result (λ n. n ≡ value 0 bytes.now) }
 {

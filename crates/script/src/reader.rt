@@ -15,8 +15,6 @@ use std::mem;
 
 pub const MAX_DEPTH: usize = 500;
 
-const NO_DIGIT: &str = "an escape without two digits of 0-9a-f";
-
 fn is_blank(byte: u8) -> bool
     ensures { result ≡ blank byte }
 {
@@ -32,11 +30,12 @@ pub fn is_skipped(line: &[u8]) -> bool
         .is_none_or(|byte| *byte == b';')
 }
 
-fn hex_digit(byte: u8) -> Option<u8> {
+// The digit of an escape.
+fn hex_digit(column: usize, byte: u8) -> Result<u8, Fault> {
     match byte {
-        b'0'..=b'9' => Some(byte - b'0'),
-        b'a'..=b'f' => Some(byte - b'a' + 10),
-        _ => None,
+        b'0'..=b'9' => Ok(byte - b'0'),
+        b'a'..=b'f' => Ok(byte - b'a' + 10),
+        _ => Err(Fault::bad(column, "an escape without two digits of 0-9a-f")),
     }
 }
 
@@ -109,20 +108,13 @@ impl Reader {
         Ok(())
     }
 
-    // The bytes of the atom or text at hand, which are all there.
-    fn end(&mut self) -> Vec<u8> {
+    // Adds the atom or text at hand, whose bytes are all there.
+    fn end<F: FnOnce(Vec<u8>) -> Content>(&mut self, content: F) -> Result<(), Fault>
+        requires { F.IsAlwaysCallable content }
+    {
+        let bytes = mem::replace(&mut self.bytes, Vec::new(self.heap));
         self.mode = Mode::Between;
-        mem::replace(&mut self.bytes, Vec::new(self.heap))
-    }
-
-    fn end_atom(&mut self) -> Result<(), Fault> {
-        let bytes = self.end();
-        self.add(self.column, Content::Atom(bytes))
-    }
-
-    fn end_text(&mut self) -> Result<(), Fault> {
-        let bytes = self.end();
-        self.add(self.column, Content::Text(bytes))
+        self.add(self.column, content(bytes))
     }
 
     fn open_list(&mut self, column: usize) -> Result<(), Fault> {
@@ -144,10 +136,10 @@ impl Reader {
 
     fn between(&mut self, column: usize, byte: u8) -> Result<(), Fault> {
         match byte {
-            b' ' | b'\t' | b'\r' => Ok(()),
             b'(' => self.open_list(column),
             b')' => self.close_list(column),
             b'"' => self.begin(column, Mode::Text),
+            _ if is_blank(byte) => Ok(()),
             _ => {
                 self.begin(column, Mode::Atom)?;
                 self.keep(byte)
@@ -162,7 +154,7 @@ impl Reader {
 
     fn in_atom(&mut self, column: usize, byte: u8) -> Result<(), Fault> {
         if is_blank(byte) || matches!(byte, b'(' | b')' | b'"') {
-            self.end_atom()?;
+            self.end(Content::Atom)?;
             return self.between(column, byte);
         }
         self.keep(byte)
@@ -170,7 +162,7 @@ impl Reader {
 
     fn in_text(&mut self, byte: u8) -> Result<(), Fault> {
         match byte {
-            b'"' => self.end_text(),
+            b'"' => self.end(Content::Text),
             b'\\' => {
                 self.mode = Mode::Escape;
                 Ok(())
@@ -187,30 +179,21 @@ impl Reader {
         Ok(())
     }
 
-    fn high_digit(&mut self, column: usize, byte: u8) -> Result<(), Fault> {
-        let Some(high) = hex_digit(byte) else {
-            return Err(Fault::bad(column, NO_DIGIT));
-        };
-        self.mode = Mode::LowDigit(high);
-        Ok(())
-    }
-
-    fn low_digit(&mut self, column: usize, high: u8, byte: u8) -> Result<(), Fault> {
-        let Some(low) = hex_digit(byte) else {
-            return Err(Fault::bad(column, NO_DIGIT));
-        };
-        self.mode = Mode::Text;
-        self.keep(high << 4 | low)
-    }
-
     fn step(&mut self, column: usize, byte: u8) -> Result<(), Fault> {
         match self.mode {
             Mode::Between => self.between(column, byte),
             Mode::Atom => self.in_atom(column, byte),
             Mode::Text => self.in_text(byte),
             Mode::Escape => self.in_escape(column, byte),
-            Mode::HighDigit => self.high_digit(column, byte),
-            Mode::LowDigit(high) => self.low_digit(column, high, byte),
+            Mode::HighDigit => {
+                self.mode = Mode::LowDigit(hex_digit(column, byte)?);
+                Ok(())
+            }
+            Mode::LowDigit(high) => {
+                let low = hex_digit(column, byte)?;
+                self.mode = Mode::Text;
+                self.keep(high << 4 | low)
+            }
         }
     }
 
@@ -218,14 +201,14 @@ impl Reader {
     fn finish(mut self, column: usize) -> Result<Form, Fault> {
         match self.mode {
             Mode::Between => {}
-            Mode::Atom => self.end_atom()?,
+            Mode::Atom => self.end(Content::Atom)?,
             _ => return Err(Fault::bad(column, "a string is not closed")),
         }
         if !self.open.is_empty() {
             return Err(Fault::bad(column, "a parenthesis is not closed"));
         }
         let Reader { form, .. } = self;
-        form.ok_or(Fault::bad(column, "no form on the line"))
+        form.ok_or_else(|| Fault::bad(column, "no form on the line"))
     }
 }
 

@@ -76,12 +76,10 @@ impl Session {
     {
         match request {
             Request::Open(capacities) => Ok(self.open(capacities)?),
-            Request::Seal => {
-                match self.state.seal() {
-                    Ok(()) => Ok(Answer::Done),
-                    Err(AlreadySealed) => Err(line.bad("the workbench is sealed")),
-                }
-            }
+            Request::Seal => match self.state.seal() {
+                Ok(()) => Ok(Answer::Done),
+                Err(AlreadySealed) => Err(line.bad("the workbench is sealed")),
+            },
             Request::EnterName(name) => {
                 let name = self.state.name(name.as_bytes())?;
                 Ok(Answer::Number(name.0))
@@ -146,6 +144,7 @@ impl Session {
 }
 
 // The answers to a whole script, from a new session.
+#[tactic(auto, using(crate::proofs::Replies::more))]
 pub fn run_script(heap: Global, script: &[u8]) -> Result<Vec<u8>, AllocError>
     ensures { IfOk result (λ v. Lines v.items) }
 {

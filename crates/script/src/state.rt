@@ -16,7 +16,8 @@ use workbench::draft::*;
 pub enum State {
     Draft(Draft),
     Sealed(Sealed),
-    // While a draft is moved out to be sealed; there is nothing to work on.
+    // While a draft is moved out to be sealed; there is nothing to work on. An Option in its place
+    // would have the same third case, with every call one level deeper.
     Closed,
 }
 
