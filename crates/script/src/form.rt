@@ -37,12 +37,11 @@ impl Form {
 
     // A name is a text or an atom.
     pub fn name(&self) -> Result<&str, Fault> {
-        match &self.content {
-            Content::Atom(bytes) | Content::Text(bytes) => from_utf8(bytes.as_slice()).map_err(
-                |_| self.bad("a name that is not UTF-8"),
-            ),
-            Content::List(_) => Err(self.bad("no name")),
-        }
+        let bytes = match &self.content {
+            Content::Atom(bytes) | Content::Text(bytes) => bytes.as_slice(),
+            Content::List(_) => return Err(self.bad("no name")),
+        };
+        from_utf8(bytes).map_err(|_| self.bad("a name that is not UTF-8"))
     }
 
     pub fn number(&self) -> Result<u64, Fault> {

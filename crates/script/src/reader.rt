@@ -13,7 +13,7 @@ use crate::form::*;
 use std::alloc::Global;
 use std::mem;
 
-pub const MAX_DEPTH: usize = 500;
+const MAX_DEPTH: usize = 500;
 
 fn is_blank(byte: u8) -> bool
     ensures { result ≡ blank byte }
