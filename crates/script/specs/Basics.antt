@@ -1,5 +1,5 @@
 -- Types without parts.
-use Rattle.std.specs.Prelude.{ℕ, List, codes}
+use Rattle.std.specs.Prelude.{◌≢◌, ℕ, List, codes}
 use Rattle.tables.specs.declared.term_type.TermType.{TermType}
 use Rattle.tables.specs.declared.term_type.TermType.TheVariants.{Bool as BoolT, Long as LongT, String as StringT, Decimal as DecimalT, Datetime as DatetimeT, Duration as DurationT}
 use Rattle.script.specs.declared.types.Basic.{Basic}
@@ -22,3 +22,7 @@ basic_word String = codes "string"
 basic_word Decimal = codes "decimal"
 basic_word Datetime = codes "datetime"
 basic_word Duration = codes "duration"
+
+-- The atom is that of no basic type.
+abbrev pub IsNoWord : List ℕ → Type 0
+IsNoWord name = (b : Basic) → name ≢ basic_word b
