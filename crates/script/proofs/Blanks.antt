@@ -1,23 +1,21 @@
-use Rattle.std.proofs.Common.{◌≡◌, ℕ, ◌+◌, ◌<◌, ◌≤◌, Bool, true, false, cond, eqb, List, length, get_or, drop}
-use Rattle.std.proofs.lemmas.List.{at_drop_more, at_drop_all}
+use Rattle.std.proofs.Common.{◌≡◌, ℕ, Bool, true, false, cond, not, eqb, List, [], ◌∷◌, Some, None, Option, MatchOption, IsTrue, refl, Bor}
+use Rattle.std.specs.List.{find}
+use Rattle.std.specs.Option.{option_map}
 use Rattle.script.specs.Skipped.{blank, skipped}
 
--- a loop over `bs` that has met only blanks
-pub more : (bs : List ℕ) (e : Bool) (i : ℕ) → i < length bs → blank (get_or bs i 0) ≡ true → skipped (drop i bs) ≡ e → skipped (drop (i + 1) bs) ≡ e
-more bs e i h b w =
-    let d : skipped (drop i bs) ≡ cond (blank (get_or bs i 0)) (skipped (drop (i + 1) bs)) (eqb (get_or bs i 0) 59) =
-    at_drop_more skipped bs i 0 h
-    in
-    let d2 : skipped (drop i bs) ≡ skipped (drop (i + 1) bs) = rw b at d in
-    cc
+abbrev begins_comment : Option ℕ → Bool
+begins_comment None = true
+begins_comment (Some b) = eqb b 59
 
-pub stops : (bs : List ℕ) (e : Bool) (i : ℕ) → i < length bs → blank (get_or bs i 0) ≡ false → skipped (drop i bs) ≡ e → eqb (get_or bs i 0) 59 ≡ e
-stops bs e i h b w =
-    let d : skipped (drop i bs) ≡ cond (blank (get_or bs i 0)) (skipped (drop (i + 1) bs)) (eqb (get_or bs i 0) 59) =
-    at_drop_more skipped bs i 0 h
-    in
-    let d2 : skipped (drop i bs) ≡ eqb (get_or bs i 0) 59 = rw b at d in
-    cc
+-- the first byte that is no blank tells
+first_tells : (bs : List ℕ) → skipped bs ≡ begins_comment (find (λ b. not (blank b)) bs)
+first_tells [] = refl
+first_tells (b ∷ bs) =
+    elim (blank b) as (λ v. cond v (skipped bs) (eqb b 59) ≡ begins_comment (cond (not v) (Some b) (find (λ x. not (blank x)) bs))) [
+      | true ↦ first_tells bs
+      | false ↦ refl
+    ]
 
-pub all : (bs : List ℕ) (e : Bool) (i : ℕ) → length bs ≤ i → skipped (drop i bs) ≡ e → true ≡ e
-all bs e i h w = let d : skipped (drop i bs) ≡ true = at_drop_all skipped bs i h in cc
+pub told : (bs : List ℕ) (o : Option (Bor ℕ)) (r : Bool) → option_map (λ x. x.now) o ≡ find (λ b. not (blank b)) bs → MatchOption o (IsTrue r) (λ x. r ≡ eqb x.now 59) → r ≡ skipped bs
+told bs None r e h = rw (first_tells bs, ← e) h
+told bs (Some x) r e h = rw (first_tells bs, ← e) h

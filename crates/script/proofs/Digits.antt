@@ -1,14 +1,14 @@
-use Rattle.std.proofs.Common.{◌≡◌, ℕ, ◌+◌, ◌-◌, ◌*◌, ◌<◌, ◌≤◌, List, length, get_or, drop}
-use Rattle.std.proofs.lemmas.List.{at_drop_more, at_drop_all}
+use Rattle.std.proofs.Common.{◌≡◌, ◌≤◌, ℕ, true, List, Ok, Err, Result, IfSome, get_or, rules, arith}
+use Rattle.std.specs.Result.{result_ok}
+use Rattle.std.specs.Str.{all_ascii_digits}
+use Rattle.std.specs.Str.Parse.{ParsesUnsigned}
+use Rattle.std.proofs.lemmas.Str.Parse.{IsNumeralModel, numerals_by_fold, parse_plain}
 use Rattle.script.specs.Decimal.{value}
 
--- a loop over `bs` that has read `n` and goes on to `m`
-pub more : (n m e : ℕ) (bs : List ℕ) (i : ℕ) → i < length bs → m ≡ n * 10 + (get_or bs i 0 - 48) → value n (drop i bs) ≡ e → value m (drop (i + 1) bs) ≡ e
-more n m e bs i h s w =
-    let d : value n (drop i bs) ≡ value (n * 10 + (get_or bs i 0 - 48)) (drop (i + 1) bs) =
-    at_drop_more (value n) bs i 0 h
-    in
-    cc
+model : IsNumeralModel (λ ds. all_ascii_digits ds ≡ true) (value 0)
+model = numerals_by_fold _ (search rules) value (search rules)
 
-pub all : (n e : ℕ) (bs : List ℕ) (i : ℕ) → length bs ≤ i → value n (drop i bs) ≡ e → n ≡ e
-all n e bs i h w = let d : value n (drop i bs) ≡ n = at_drop_all (value n) bs i h in cc
+-- what `parse` gives of a text that begins with no sign
+pub parsed : {E : Type 0} (bs : List ℕ) (r : Result ℕ E) → 48 ≤ get_or bs 0 0 → ParsesUnsigned 64 10 bs r → IfSome (result_ok r) (λ n. n ≡ value 0 bs)
+parsed {E} bs (Ok n) plain h = (parse_plain model {E = E} 64 bs (Ok n) h (omega arith)).1
+parsed bs (Err e) plain h = tt

@@ -1,4 +1,4 @@
 mod Blanks
 mod Digits
 mod Replies
-mod Types
+mod PartTexts

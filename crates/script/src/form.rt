@@ -1,178 +1,83 @@
-// A line that was read, as an arena: its forms in one list, their bytes in another.
-ghost use Rattle.std.specs.Prelude.{◌≡◌, ◌<◌, IfSome};
-ghost use Rattle.script.specs.Walk.{count, ahead};
-ghost use Rattle.std.specs.Iterator.{at_most};
+// A line that was read, as a tree of forms.
+ghost use Rattle.std.specs.Prelude.{◌≡◌, [], ◌∷◌, IfOk};
+ghost use Rattle.script.specs.Forms.{StandWithin};
 
-use std::alloc::{AllocFailed, Global};
+use crate::fault::*;
+use crate::numbers::parse_unsigned;
+use std::str::from_utf8;
 
-// Names a form of a line: its place in the order in which the forms begin.
-#[derive(Clone, Copy, PartialEq, Eq, Debug)]
-pub struct FormId(pub usize);
-
-#[derive(Clone, Copy, PartialEq, Eq, Debug)]
-pub enum Shape {
-    Atom,
-    Text,
-    List,
-}
-
-#[derive(Clone, Copy)]
+#[derive(Drop)]
+#[cycle(forms)]
 pub struct Form {
+    // Of its first byte, from 1.
     pub column: usize,
-    pub shape: Shape,
-    // The bytes of an atom or a text, as a range of the line's bytes; empty of a list.
-    start: usize,
-    end: usize,
-    first: Option<FormId>,
-    next: Option<FormId>,
+    pub content: Content,
 }
 
 #[derive(Drop)]
-pub struct Line {
-    forms: Vec<Form>,
-    bytes: Vec<u8>,
+#[cycle(forms)]
+pub enum Content {
+    Atom(Vec<u8>),
+    // The bytes between the quotes, with the escapes resolved.
+    Text(Vec<u8>),
+    List(Vec<Form>),
 }
 
-impl Line {
-    pub fn root(&self) -> FormId {
-        FormId(0)
+impl Form {
+    pub fn bad(&self, message: &'static str) -> Fault {
+        Fault::bad(self.column, message)
     }
 
-    // An id past the end has the shape of a list with no children.
-    pub fn shape(&self, id: FormId) -> Shape {
-        match self.forms.get(id.0) {
-            Some(form) => form.shape,
-            None => Shape::List,
+    pub fn atom(&self) -> Option<&[u8]> {
+        match &self.content {
+            Content::Atom(bytes) => Some(bytes.as_slice()),
+            _ => None,
         }
     }
 
-    // The column of the form's first byte, from 1; 0 for an id past the end.
-    pub fn column(&self, id: FormId) -> usize {
-        match self.forms.get(id.0) {
-            Some(form) => form.column,
-            None => 0,
-        }
+    // A name is a text or an atom.
+    pub fn name(&self) -> Result<&str, Fault> {
+        let bytes = match &self.content {
+            Content::Atom(bytes) | Content::Text(bytes) => bytes.as_slice(),
+            Content::List(_) => return Err(self.bad("no name")),
+        };
+        from_utf8(bytes).map_err(|_| self.bad("a name that is not UTF-8"))
     }
 
-    // An atom's bytes, or a text's with its escapes resolved.
-    pub fn bytes(&self, id: FormId) -> &[u8] {
-        match self.forms.get(id.0) {
-            Some(form) => self.bytes.get(form.start..form.end).unwrap_or(&[]),
-            None => &[],
-        }
+    pub fn number(&self) -> Result<u64, Fault> {
+        self.atom()
+            .and_then(parse_unsigned)
+            .ok_or_else(|| self.bad("no unsigned number of 64 bits"))
     }
 
-    // The first child of a list. This link and `next` go forward, so that a walk along them ends.
-    pub fn first(&self, id: FormId) -> Option<FormId>
-        ensures { IfSome result (λ n. (id.0 < n.0) × (n.0 < count self.now)) }
+    // The first part of a list and the others. What is no list is refused with the message.
+    pub fn parts(&self, no_list: &'static str) -> Result<(&Form, &[Form]), Fault>
+        ensures { IfOk result (λ p. StandWithin (p.0.now ∷ p.1.now) self.now) }
     {
-        self.forward(id, self.forms.get(id.0)?.first?)
+        let Content::List(parts) = &self.content else {
+            return Err(self.bad(no_list));
+        };
+        let [first, others @ ..] = parts.as_slice() else {
+            return Err(self.bad("an empty list"));
+        };
+        Ok((first, others))
     }
 
-    // The form that follows within the same list.
-    pub fn next(&self, id: FormId) -> Option<FormId>
-        ensures { IfSome result (λ n. (id.0 < n.0) × (n.0 < count self.now)) }
+    // Some parts of this list, of which there have to be so many.
+    pub fn exactly<'a, const N: usize>(&self, parts: &'a [Form]) -> Result<&'a [Form; N], Fault>
+        ensures { IfOk result (λ a. a.now ≡ parts.now) }
     {
-        self.forward(id, self.forms.get(id.0)?.next?)
+        match parts.split_first_chunk() {
+            Some((parts, [])) => Ok(parts),
+            Some((_, [more, ..])) => Err(more.bad("a list with a part too many")),
+            None => Err(self.bad("a list with a part too few")),
+        }
     }
-
-    // Every link of a line that was read goes forward; the test is how a caller's proof knows it.
-    fn forward(&self, from: FormId, to: FormId) -> Option<FormId>
-        ensures { IfSome result (λ n. (n ≡ to) × (from.0 < n.0) × (n.0 < count self.now)) }
+    // The only one of some parts of this list.
+    pub fn only<'a>(&self, parts: &'a [Form]) -> Result<&'a Form, Fault>
+        ensures { IfOk result (λ part. parts.now ≡ part.now ∷ []) }
     {
-        if from.0 < to.0 && to.0 < self.forms.len() {
-            Some(to)
-        } else {
-            None
-        }
-    }
-
-    pub fn is_atom(&self, id: FormId, name: &str) -> bool {
-        self.shape(id) == Shape::Atom && self.bytes(id) == name.as_bytes()
-    }
-
-    pub fn children(&self, list: FormId) -> Children<'_>
-        ensures line { result.line.now ≡ self.now }
-        ensures list { result.list ≡ list }
-    {
-        Children {
-            line: self,
-            list,
-            next: self.first(list),
-        }
-    }
-
-    pub(crate) fn new(heap: Global) -> Line {
-        Line {
-            forms: Vec::new(heap),
-            bytes: Vec::new(heap),
-        }
-    }
-
-    pub(crate) fn is_empty(&self) -> bool {
-        self.forms.is_empty()
-    }
-
-    // Where the bytes of the next atom or text begin.
-    pub(crate) fn mark(&self) -> usize {
-        self.bytes.len()
-    }
-
-    pub(crate) fn push_byte(&mut self, byte: u8) -> Result<(), AllocFailed<u8>> {
-        self.bytes.push(byte)
-    }
-
-    // Adds a form with no links, whose bytes are those pushed from `start` on.
-    pub(crate) fn push_form(
-        &mut self,
-        shape: Shape,
-        column: usize,
-        start: usize,
-    ) -> Result<FormId, AllocFailed<Form>> {
-        let id = FormId(self.forms.len());
-        let end = self.bytes.len();
-        self.forms.push(Form {
-            column,
-            shape,
-            start,
-            end,
-            first: None,
-            next: None,
-        })?;
-        Ok(id)
-    }
-
-    pub(crate) fn set_first(&mut self, list: FormId, child: FormId) {
-        if let Some(form) = self.forms.get_mut(list.0) {
-            form.first = Some(child);
-        }
-    }
-
-    pub(crate) fn set_next(&mut self, form: FormId, sibling: FormId) {
-        if let Some(form) = self.forms.get_mut(form.0) {
-            form.next = Some(sibling);
-        }
-    }
-}
-
-// The children of a list, in order. Each comes after the list, which bounds a recursion over forms.
-#[derive(Drop)]
-pub struct Children<'a> {
-    line: &'a Line,
-    list: FormId,
-    next: Option<FormId>,
-}
-
-impl<'a> Iterator for Children<'a> {
-    type Item = FormId;
-
-    ghost remaining = { λ s. at_most (ahead s) };
-
-    ghost next_gives = { λ s r t. (t.line ≡ s.line) × (t.list ≡ s.list) × IfSome r (λ x. (s.list.0 < x.0) × (x.0 < count s.line.now)) };
-
-    fn next(&mut self) -> Option<FormId> {
-        let id = self.line.forward(self.list, self.next?)?;
-        self.next = self.line.next(id);
-        Some(id)
+        let [part] = self.exactly::<1>(parts)?;
+        Ok(part)
     }
 }

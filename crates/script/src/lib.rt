@@ -4,15 +4,12 @@
 mod answers;
 mod enter;
 mod fault;
-mod fields;
 mod form;
 mod numbers;
-mod parts;
 mod print_types;
 mod printer;
 mod reader;
 mod request;
 pub mod session;
 mod state;
-mod steps;
-mod utf8;
+mod types;

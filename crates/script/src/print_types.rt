@@ -1,4 +1,4 @@
-// Types of a workbench, written as `steps` reads them.
+// Types of a workbench, written as `types` reads them.
 ghost use Rattle.std.specs.Prelude.{◌++◌, Some, codes};
 ghost use Rattle.std.specs.Fmt.{WritesOnOk};
 ghost use Rattle.script.specs.AnswerText.{type_text, part_text};

@@ -1,4 +1,4 @@
-// Reads a line, byte by byte, into the arena of `form`.
+// Reads a line, byte by byte, into the tree of `form`.
 //
 // A line is one form, with only blanks (space, tab, CR) around it. A form is a list, forms between
 // parentheses; a text, bytes between quotes; or an atom, a longest run of bytes that are no blank,
@@ -8,48 +8,12 @@
 ghost use Rattle.std.specs.Prelude.{◌≡◌};
 ghost use Rattle.script.specs.Skipped.{blank, skipped};
 
-use crate::form::{FormId, Line, Shape};
-use std::alloc::{AllocError, AllocFailed, Global};
+use crate::fault::*;
+use crate::form::*;
+use std::alloc::Global;
+use std::mem;
 
-pub const MAX_DEPTH: usize = 500;
-
-const NO_DIGIT: &str = "an escape without two digits of 0-9a-f";
-
-// Where a line stops being one: the column, from 1, of the first byte that no line has there, or the
-// column past the last byte where more is missing.
-#[derive(Clone, Copy, PartialEq, Eq, Debug)]
-pub struct Bad {
-    pub column: usize,
-    pub message: &'static str,
-}
-
-#[derive(Clone, Copy, PartialEq, Eq, Debug)]
-pub enum ReadError {
-    Bad(Bad),
-    NoMemory,
-}
-
-impl From<Bad> for ReadError {
-    fn from(bad: Bad) -> ReadError {
-        ReadError::Bad(bad)
-    }
-}
-
-impl From<AllocError> for ReadError {
-    fn from(_e: AllocError) -> ReadError {
-        ReadError::NoMemory
-    }
-}
-
-impl<T: Drop> From<AllocFailed<T>> for ReadError {
-    fn from(_e: AllocFailed<T>) -> ReadError {
-        ReadError::NoMemory
-    }
-}
-
-fn refuse(column: usize, message: &'static str) -> ReadError {
-    ReadError::Bad(Bad { column, message })
-}
+const MAX_DEPTH: usize = 500;
 
 fn is_blank(byte: u8) -> bool
     ensures { result ≡ blank byte }
@@ -61,19 +25,17 @@ fn is_blank(byte: u8) -> bool
 pub fn is_skipped(line: &[u8]) -> bool
     ensures { result ≡ skipped line.now }
 {
-    for byte in line {
-        if !is_blank(*byte) {
-            return *byte == b';';
-        }
-    }
-    true
+    line.iter()
+        .find(|byte| !is_blank(**byte))
+        .is_none_or(|byte| *byte == b';')
 }
 
-fn hex_digit(byte: u8) -> Option<u8> {
+// The digit of an escape.
+fn hex_digit(column: usize, byte: u8) -> Result<u8, Fault> {
     match byte {
-        b'0'..=b'9' => Some(byte - b'0'),
-        b'a'..=b'f' => Some(byte - b'a' + 10),
-        _ => None,
+        b'0'..=b'9' => Ok(byte - b'0'),
+        b'a'..=b'f' => Ok(byte - b'a' + 10),
+        _ => Err(Fault::bad(column, "an escape without two digits of 0-9a-f")),
     }
 }
 
@@ -89,94 +51,95 @@ enum Mode {
     LowDigit(u8),
 }
 
-// A list whose closing parenthesis is still to come, with the last of its children so far.
-#[derive(Clone, Copy)]
+// A list whose closing parenthesis is still to come, with its parts so far.
+#[derive(Drop)]
 struct Open {
-    list: FormId,
-    last: Option<FormId>,
+    column: usize,
+    parts: Vec<Form>,
 }
 
 #[derive(Drop)]
 struct Reader {
-    line: Line,
+    heap: Global,
+    // The form of the line, once it is whole.
+    form: Option<Form>,
+    // The innermost list is the last.
     open: Vec<Open>,
     mode: Mode,
-    // Where the atom or text at hand begins, in the text and in the line's bytes.
+    // Where the atom or text at hand begins, and its bytes so far.
     column: usize,
-    start: usize,
+    bytes: Vec<u8>,
 }
 
 impl Reader {
     fn new(heap: Global) -> Reader {
         Reader {
-            line: Line::new(heap),
+            heap,
+            form: None,
             open: Vec::new(heap),
             mode: Mode::Between,
             column: 0,
-            start: 0,
+            bytes: Vec::new(heap),
         }
-    }
-
-    // Makes `child` the last child of the innermost open list.
-    fn attach(&mut self, child: FormId) {
-        let Some(open) = self.open.last_mut() else {
-            return;
-        };
-        match open.last {
-            Some(last) => self.line.set_next(last, child),
-            None => self.line.set_first(open.list, child),
-        }
-        open.last = Some(child);
     }
 
     // A form may begin within a list, or as the only one of its line.
-    fn check_place(&self, column: usize) -> Result<(), ReadError> {
-        if self.open.is_empty() && !self.line.is_empty() {
-            return Err(refuse(column, "a second form on the line"));
+    fn check_place(&self, column: usize) -> Result<(), Fault> {
+        if self.open.is_empty() && self.form.is_some() {
+            return Err(Fault::bad(column, "a second form on the line"));
         }
         Ok(())
     }
 
-    fn begin(&mut self, column: usize, mode: Mode) -> Result<(), ReadError> {
+    fn begin(&mut self, column: usize, mode: Mode) -> Result<(), Fault> {
         self.check_place(column)?;
         self.mode = mode;
         self.column = column;
-        self.start = self.line.mark();
+        Ok(())
+    }
+
+    // Adds a whole form to the innermost open list, or as that of the line.
+    fn add(&mut self, column: usize, content: Content) -> Result<(), Fault> {
+        let form = Form { column, content };
+        match self.open.last_mut() {
+            Some(list) => list.parts.push(form)?,
+            None => self.form = Some(form),
+        }
         Ok(())
     }
 
     // Adds the atom or text at hand, whose bytes are all there.
-    fn end(&mut self, shape: Shape) -> Result<(), ReadError> {
-        let id = self.line.push_form(shape, self.column, self.start)?;
-        self.attach(id);
+    fn end<F: FnOnce(Vec<u8>) -> Content>(&mut self, content: F) -> Result<(), Fault>
+        requires { F.IsAlwaysCallable content }
+    {
+        let bytes = mem::replace(&mut self.bytes, Vec::new(self.heap));
         self.mode = Mode::Between;
-        Ok(())
+        self.add(self.column, content(bytes))
     }
 
-    fn open_list(&mut self, column: usize) -> Result<(), ReadError> {
+    fn open_list(&mut self, column: usize) -> Result<(), Fault> {
         self.check_place(column)?;
         if self.open.len() >= MAX_DEPTH {
-            return Err(refuse(column, "nested too deep"));
+            return Err(Fault::bad(column, "nested too deep"));
         }
-        let list = self.line.push_form(Shape::List, column, self.line.mark())?;
-        self.attach(list);
-        self.open.push(Open { list, last: None })?;
+        let parts = Vec::new(self.heap);
+        self.open.push(Open { column, parts })?;
         Ok(())
     }
 
-    fn close_list(&mut self, column: usize) -> Result<(), ReadError> {
-        match self.open.pop() {
-            Some(_) => Ok(()),
-            None => Err(refuse(column, "a closing parenthesis too many")),
-        }
+    fn close_list(&mut self, column: usize) -> Result<(), Fault> {
+        let Some(Open { column, parts }) = self.open.pop() else {
+            return Err(Fault::bad(column, "a closing parenthesis too many"));
+        };
+        self.add(column, Content::List(parts))
     }
 
-    fn between(&mut self, column: usize, byte: u8) -> Result<(), ReadError> {
+    fn between(&mut self, column: usize, byte: u8) -> Result<(), Fault> {
         match byte {
-            b' ' | b'\t' | b'\r' => Ok(()),
             b'(' => self.open_list(column),
             b')' => self.close_list(column),
             b'"' => self.begin(column, Mode::Text),
+            _ if is_blank(byte) => Ok(()),
             _ => {
                 self.begin(column, Mode::Atom)?;
                 self.keep(byte)
@@ -184,22 +147,22 @@ impl Reader {
         }
     }
 
-    fn keep(&mut self, byte: u8) -> Result<(), ReadError> {
-        self.line.push_byte(byte)?;
+    fn keep(&mut self, byte: u8) -> Result<(), Fault> {
+        self.bytes.push(byte)?;
         Ok(())
     }
 
-    fn in_atom(&mut self, column: usize, byte: u8) -> Result<(), ReadError> {
+    fn in_atom(&mut self, column: usize, byte: u8) -> Result<(), Fault> {
         if is_blank(byte) || matches!(byte, b'(' | b')' | b'"') {
-            self.end(Shape::Atom)?;
+            self.end(Content::Atom)?;
             return self.between(column, byte);
         }
         self.keep(byte)
     }
 
-    fn in_text(&mut self, byte: u8) -> Result<(), ReadError> {
+    fn in_text(&mut self, byte: u8) -> Result<(), Fault> {
         match byte {
-            b'"' => self.end(Shape::Text),
+            b'"' => self.end(Content::Text),
             b'\\' => {
                 self.mode = Mode::Escape;
                 Ok(())
@@ -208,64 +171,51 @@ impl Reader {
         }
     }
 
-    fn in_escape(&mut self, column: usize, byte: u8) -> Result<(), ReadError> {
+    fn in_escape(&mut self, column: usize, byte: u8) -> Result<(), Fault> {
         if byte != b'x' {
-            return Err(refuse(column, "an escape other than \\x"));
+            return Err(Fault::bad(column, "an escape other than \\x"));
         }
         self.mode = Mode::HighDigit;
         Ok(())
     }
 
-    fn high_digit(&mut self, column: usize, byte: u8) -> Result<(), ReadError> {
-        let Some(high) = hex_digit(byte) else {
-            return Err(refuse(column, NO_DIGIT));
-        };
-        self.mode = Mode::LowDigit(high);
-        Ok(())
-    }
-
-    fn low_digit(&mut self, column: usize, high: u8, byte: u8) -> Result<(), ReadError> {
-        let Some(low) = hex_digit(byte) else {
-            return Err(refuse(column, NO_DIGIT));
-        };
-        self.mode = Mode::Text;
-        self.keep(high << 4 | low)
-    }
-
-    fn step(&mut self, column: usize, byte: u8) -> Result<(), ReadError> {
+    fn step(&mut self, column: usize, byte: u8) -> Result<(), Fault> {
         match self.mode {
             Mode::Between => self.between(column, byte),
             Mode::Atom => self.in_atom(column, byte),
             Mode::Text => self.in_text(byte),
             Mode::Escape => self.in_escape(column, byte),
-            Mode::HighDigit => self.high_digit(column, byte),
-            Mode::LowDigit(high) => self.low_digit(column, high, byte),
+            Mode::HighDigit => {
+                self.mode = Mode::LowDigit(hex_digit(column, byte)?);
+                Ok(())
+            }
+            Mode::LowDigit(high) => {
+                let low = hex_digit(column, byte)?;
+                self.mode = Mode::Text;
+                self.keep(high << 4 | low)
+            }
         }
     }
 
-    // Ends the line, at the column past its last byte.
-    fn finish(&mut self, column: usize) -> Result<(), ReadError> {
+    // The form of the line, which ends at the column past its last byte.
+    fn finish(mut self, column: usize) -> Result<Form, Fault> {
         match self.mode {
             Mode::Between => {}
-            Mode::Atom => self.end(Shape::Atom)?,
-            _ => return Err(refuse(column, "a string is not closed")),
+            Mode::Atom => self.end(Content::Atom)?,
+            _ => return Err(Fault::bad(column, "a string is not closed")),
         }
         if !self.open.is_empty() {
-            return Err(refuse(column, "a parenthesis is not closed"));
+            return Err(Fault::bad(column, "a parenthesis is not closed"));
         }
-        if self.line.is_empty() {
-            return Err(refuse(column, "no form on the line"));
-        }
-        Ok(())
+        let Reader { form, .. } = self;
+        form.ok_or_else(|| Fault::bad(column, "no form on the line"))
     }
 }
 
-pub fn read_line(heap: Global, line: &[u8]) -> Result<Line, ReadError> {
+pub fn read_line(heap: Global, line: &[u8]) -> Result<Form, Fault> {
     let mut reader = Reader::new(heap);
-    for (i, byte) in line.iter().enumerate() {
-        reader.step(i.saturating_add(1), *byte)?;
+    for (column, byte) in (1..).zip(line) {
+        reader.step(column, *byte)?;
     }
-    reader.finish(line.len().saturating_add(1))?;
-    let Reader { line, .. } = reader;
-    Ok(line)
+    reader.finish(line.len().saturating_add(1))
 }

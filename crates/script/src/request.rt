@@ -1,17 +1,16 @@
 // The requests, one to a line.
+use crate::fault::*;
 use crate::form::*;
-use crate::parts::*;
-use crate::reader::*;
-use crate::steps::*;
+use crate::types::*;
 use std::alloc::Global;
 use tables::capacities::*;
 
 #[derive(Drop)]
-pub enum Request {
+pub enum Request<'a> {
     Open(Capacities),
     Seal,
-    EnterName(FormId),
-    EnterType(Vec<Step>),
+    EnterName(&'a str),
+    EnterType(TypeForm<'a>),
     ShowName(u64),
     ShowType(u64),
     Counts,
@@ -19,14 +18,13 @@ pub enum Request {
 }
 
 // The six numbers that follow the word `open`.
-fn read_capacities(line: &Line, list: FormId, open: FormId) -> Result<Capacities, Bad> {
+fn read_capacities(line: &Form, arguments: &[Form]) -> Result<Capacities, Fault> {
     let mut numbers = [0; 6];
-    let mut last = open;
-    for place in numbers.iter_mut() {
-        last = after(line, list, last)?;
-        *place = number(line, last)? as usize;
+    for (number, argument) in numbers.iter_mut().zip(arguments) {
+        // One past a usize is refused as too large, as the largest usize is.
+        *number = usize::try_from(argument.number()?).unwrap_or(usize::MAX);
     }
-    check_last(line, last)?;
+    line.exactly::<6>(arguments)?;
     let [terms, types, names, bytes, lists, rows] = numbers;
     Ok(Capacities {
         terms,
@@ -38,48 +36,24 @@ fn read_capacities(line: &Line, list: FormId, open: FormId) -> Result<Capacities
     })
 }
 
-fn read_name(line: &Line, list: FormId, word: FormId) -> Result<FormId, Bad> {
-    let name = last_after(line, list, word)?;
-    check_name(line, name)?;
-    Ok(name)
-}
-
-fn read_number(line: &Line, list: FormId, word: FormId) -> Result<u64, Bad> {
-    number(line, last_after(line, list, word)?)
-}
-
 // A request with no argument.
-fn alone(line: &Line, word: FormId, request: Request) -> Result<Request, Bad> {
-    check_last(line, word)?;
+fn alone<'a>(line: &Form, arguments: &[Form], request: Request<'a>) -> Result<Request<'a>, Fault> {
+    line.exactly::<0>(arguments)?;
     Ok(request)
 }
 
-fn read_word(line: &Line, list: FormId) -> Result<FormId, Bad> {
-    if line.shape(list) != Shape::List {
-        return Err(bad_at(line, list, "no request"));
-    }
-    let word = head(line, list)?;
-    if line.shape(word) != Shape::Atom {
-        return Err(bad_at(line, word, "no request"));
-    }
-    Ok(word)
-}
-
-pub fn read_request(heap: Global, line: &Line) -> Result<Request, ReadError> {
-    let list = line.root();
-    let word = read_word(line, list)?;
-    match line.bytes(word) {
-        b"open" => Ok(Request::Open(read_capacities(line, list, word)?)),
-        b"seal" => Ok(alone(line, word, Request::Seal)?),
-        b"enter-name" => Ok(Request::EnterName(read_name(line, list, word)?)),
-        b"enter-type" => {
-            let ty = last_after(line, list, word)?;
-            Ok(Request::EnterType(read_type(heap, line, ty)?))
-        }
-        b"show-name" => Ok(Request::ShowName(read_number(line, list, word)?)),
-        b"show-type" => Ok(Request::ShowType(read_number(line, list, word)?)),
-        b"counts" => Ok(alone(line, word, Request::Counts)?),
-        b"capacities" => Ok(alone(line, word, Request::Capacities)?),
-        _ => Err(ReadError::Bad(bad_at(line, word, "an unknown request"))),
+pub fn read_request(heap: Global, line: &Form) -> Result<Request<'_>, Fault> {
+    let (word, arguments) = line.parts("no request")?;
+    match word.atom() {
+        Some(b"open") => Ok(Request::Open(read_capacities(line, arguments)?)),
+        Some(b"seal") => alone(line, arguments, Request::Seal),
+        Some(b"enter-name") => Ok(Request::EnterName(line.only(arguments)?.name()?)),
+        Some(b"enter-type") => Ok(Request::EnterType(read_type(heap, line.only(arguments)?)?)),
+        Some(b"show-name") => Ok(Request::ShowName(line.only(arguments)?.number()?)),
+        Some(b"show-type") => Ok(Request::ShowType(line.only(arguments)?.number()?)),
+        Some(b"counts") => alone(line, arguments, Request::Counts),
+        Some(b"capacities") => alone(line, arguments, Request::Capacities),
+        Some(_) => Err(word.bad("an unknown request")),
+        None => Err(word.bad("no request")),
     }
 }

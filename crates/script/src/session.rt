@@ -7,7 +7,6 @@ use crate::answers::*;
 use crate::enter::enter_type;
 use crate::fault::*;
 use crate::form::*;
-use crate::parts::bad_at;
 use crate::print_types::Shown;
 use crate::reader::*;
 use crate::request::*;
@@ -30,20 +29,15 @@ impl Session {
     fn new(heap: Global) -> Result<Session, AllocError>
         ensures { IfOk result Starts }
     {
-        match Draft::open(heap, Capacities::LARGEST) {
-            Ok(draft) => Ok(Session {
-                heap,
-                state: State::Draft(draft),
-            }),
-            Err(_) => Err(AllocError),
-        }
+        let draft = Draft::open(heap, Capacities::LARGEST).map_err(|_| AllocError)?;
+        Ok(Session {
+            heap,
+            state: State::Draft(draft),
+        })
     }
 
     fn tables(&self) -> Result<&Tables, CompileError> {
-        match self.state.tables() {
-            Some(tables) => Ok(tables),
-            None => Err(CompileError::NoMemory),
-        }
+        self.state.tables().ok_or(CompileError::NoMemory)
     }
 
     fn open(&mut self, capacities: Capacities) -> Result<Answer, CompileError> {
@@ -52,49 +46,47 @@ impl Session {
         Ok(Answer::Done)
     }
 
-    fn show_name(&self, number: u64) -> Result<Answer, CompileError> {
-        let Ok(n) = u16::try_from(number) else {
-            return Err(CompileError::BadInput);
-        };
-        if !self.tables()?.is_name(NameId(n)) {
-            return Err(CompileError::BadInput);
+    // The number as that of a cell that was entered.
+    fn entered<F: Fn(&Tables, u16) -> bool>(
+        &self,
+        number: u64,
+        is_entered: F,
+    ) -> Result<u16, CompileError>
+    where
+        F: Drop,
+        requires { F.IsAlwaysCallable is_entered }
+    {
+        match u16::try_from(number) {
+            Ok(n) if is_entered(self.tables()?, n) => Ok(n),
+            _ => Err(CompileError::BadInput),
         }
-        Ok(Answer::Name(NameId(n)))
     }
 
-    fn show_type(&self, number: u64) -> Result<Answer, CompileError> {
-        let Ok(n) = u16::try_from(number) else {
-            return Err(CompileError::BadInput);
-        };
-        if !self.tables()?.is_type(TypeId(n)) {
-            return Err(CompileError::BadInput);
-        }
-        Ok(Answer::Type(TypeId(n)))
-    }
-
-    fn carry_out(&mut self, line: &Line, request: Request) -> Result<Answer, Fault>
+    fn carry_out(&mut self, line: &Form, request: Request) -> Result<Answer, Fault>
         ensures { OnBad result (self.new ≡ self.old) }
     {
         match request {
             Request::Open(capacities) => Ok(self.open(capacities)?),
-            Request::Seal => {
-                if self.state.seal() {
-                    Ok(Answer::Done)
-                } else {
-                    let bad = bad_at(line, line.root(), "the workbench is sealed");
-                    Err(Fault::Bad(bad))
-                }
-            }
+            Request::Seal => match self.state.seal() {
+                Ok(()) => Ok(Answer::Done),
+                Err(AlreadySealed) => Err(line.bad("the workbench is sealed")),
+            },
             Request::EnterName(name) => {
-                let name = self.state.name(line.bytes(name))?;
+                let name = self.state.name(name.as_bytes())?;
                 Ok(Answer::Number(name.0))
             }
-            Request::EnterType(steps) => {
-                let ty = enter_type(self.heap, &mut self.state, line, steps.as_slice())?;
+            Request::EnterType(ty) => {
+                let ty = enter_type(self.heap, &mut self.state, &ty)?;
                 Ok(Answer::Number(ty.0))
             }
-            Request::ShowName(number) => Ok(self.show_name(number)?),
-            Request::ShowType(number) => Ok(self.show_type(number)?),
+            Request::ShowName(number) => {
+                let n = self.entered(number, |tables, n| tables.is_name(NameId(n)))?;
+                Ok(Answer::Name(NameId(n)))
+            }
+            Request::ShowType(number) => {
+                let n = self.entered(number, |tables, n| tables.is_type(TypeId(n)))?;
+                Ok(Answer::Type(TypeId(n)))
+            }
             Request::Counts => Ok(Answer::Cells(self.tables()?.in_use())),
             Request::Capacities => Ok(Answer::Cells(self.tables()?.capacities())),
         }
@@ -139,20 +131,14 @@ impl Session {
 }
 
 // The answers to a whole script, from a new session.
+#[tactic(auto, using(crate::proofs::Replies::more))]
 pub fn run_script(heap: Global, script: &[u8]) -> Result<Vec<u8>, AllocError>
     ensures { IfOk result (λ v. Lines v.items) }
 {
     let mut session = Session::new(heap)?;
     let mut answers = Vec::new(heap);
-    let mut number = 1;
-    let mut start = 0;
-    for (i, byte) in script.iter().enumerate() {
-        if *byte == b'\n' {
-            session.answer(number, &script[start..i], &mut answers)?;
-            number += 1;
-            start = i + 1;
-        }
+    for (number, line) in (1..).zip(script.split(|byte| *byte == b'\n')) {
+        session.answer(number, line, &mut answers)?;
     }
-    session.answer(number, &script[start..], &mut answers)?;
     Ok(answers)
 }

@@ -1,5 +1,5 @@
 // The workbench that a script works on.
-ghost use Rattle.std.specs.Prelude.{◌≡◌, false, Some, None, MatchOption};
+ghost use Rattle.std.specs.Prelude.{◌≡◌, Some, None, MatchOption, OnErr, is_ok};
 ghost use Rattle.tables.specs.Types.{type_of};
 ghost use Rattle.tables.specs.Calls.{name_call, type_call};
 ghost use Rattle.script.specs.Held.{held, On, is_draft};
@@ -15,9 +15,14 @@ use workbench::bench::*;
 pub enum State {
     Draft(Draft),
     Sealed(Sealed),
-    // While a draft is moved out to be sealed; there is nothing to work on.
+    // While a draft is moved out to be sealed; there is nothing to work on. An Option in its place
+    // would have the same third case, with every call one level deeper.
     Closed,
 }
+
+// Only a draft can be sealed.
+#[derive(Clone, Copy, PartialEq, Eq, Debug)]
+pub struct AlreadySealed;
 
 impl State {
     pub fn name(&mut self, bytes: &[u8]) -> Result<NameId, CompileError>
@@ -50,20 +55,20 @@ impl State {
         }
     }
 
-    // Seals a draft, and says whether there was one.
-    pub fn seal(&mut self) -> bool
-        ensures test { result ≡ is_draft self.old }
+    // Seals a draft.
+    pub fn seal(&mut self) -> Result<(), AlreadySealed>
+        ensures test { is_ok result ≡ is_draft self.old }
         ensures held { held self.new ≡ held self.old }
-        ensures same { result ≡ false → self.new ≡ self.old }
+        ensures same { OnErr result (self.new ≡ self.old) }
     {
         match mem::replace(self, State::Closed) {
             State::Draft(draft) => {
                 *self = State::Sealed(draft.seal());
-                true
+                Ok(())
             }
             other => {
                 *self = other;
-                false
+                Err(AlreadySealed)
             }
         }
     }

@@ -108,6 +108,24 @@ ok (terms 2) (types 1) (names 2) (bytes 9) (lists 0) (rows 0)
     answers(&rt, rt.alloc(), script, expected)
 }
 
+// Of several faults of a line: those of a record's fields come first, then those of their types in
+// the order of the names; and a number's comes before that of another one that is missing.
+#[test]
+fn the_first_fault_is_answered(rt: HostRuntime) -> Result<(), Fail> {
+    let script = b"(enter-type (record (b text) (a list) (c)))
+(enter-type (record (b text) (a list)))
+(enter-type (record (b text) (b long) c))
+(open 2 x)
+(seal (";
+    let expected = b"bad 1:39 a list with a part too few
+bad 2:33 an unknown type
+bad 3:31 a name twice in a record
+bad 4:9 no unsigned number of 64 bits
+bad 5:8 a parenthesis is not closed
+";
+    answers(&rt, rt.alloc(), script, expected)
+}
+
 #[test]
 fn capacities_end_where_they_do(rt: HostRuntime) -> Result<(), Fail> {
     let script = b"(open 2 1 2 9 0 0)

@@ -1,26 +1,16 @@
-use Rattle.std.proofs.Common.{sym, arith}
-use Rattle.script.proofs.Blanks.{more, stops, all}
+use Rattle.std.proofs.Common.{not, rules, tests}
+use Rattle.std.proofs.lemmas.Iterator.{YieldsList-from_slice}
+use Rattle.std.proofs.lemmas.Iterator.Search.{find_from_yields_List}
+use Rattle.script.specs.Skipped.{blank}
+use Rattle.script.proofs.Blanks.{told}
 use Rattle.script.proofs.reader.is_skipped.Goals as goal
 
-pub returns-then-not-is_blank : goal.returns-then-not-is_blank
-returns-then-not-is_blank c =
-    stops
-    c.args.line.now
-    _
-    c.loop-byte.byte-index
-    (omega arith)
-    (sym c.if-not-is_blank.ensures)
-    c.loop-byte.invariant
-
-pub loop-byte-preserved : goal.loop-byte-preserved
-loop-byte-preserved c =
-    more
-    c.args.line.now
-    _
-    c.loop-byte.byte-index
-    (omega arith)
-    (sym c.if-not-is_blank.ensures)
-    c.loop-byte.invariant
-
 pub returns : goal.returns
-returns c = all c.args.line.now _ c.loop-byte.byte-index (omega arith) c.loop-byte.invariant
+returns c =
+    let line = c.args.line.now in
+    told
+    line
+    c.find.result
+    _
+    (find_from_yields_List (λ b. not (blank b)) _ _ _ c.find.ensures.ran (YieldsList-from_slice line cc) (λ x b q k. search (rules, tests)))
+    (search (rules, tests))

@@ -2,7 +2,7 @@ use Rattle.std.proofs.Common.{rules, arith}
 use Rattle.std.proofs.Output.{has_written_append}
 use Rattle.std.specs.Fmt.{HasWritten}
 use Rattle.script.specs.AnswerText.{part_text}
-use Rattle.script.proofs.Types.{part_is, no_part}
+use Rattle.script.proofs.PartTexts.{part_is, no_part}
 use Rattle.script.proofs.print_types.Shown+TypeId.+types.Goals as goal
 use Rattle.script.proofs.print_types.Shown+TypeId.+types.Goals.{write_part-then-part-self+in_ok-write-2, write_part-else-part-self}
 
