@@ -39,7 +39,8 @@ fn hex_digit(column: usize, byte: u8) -> Result<u8, Fault> {
     }
 }
 
-// What the bytes before the next one leave it to be.
+// What the bytes before the next one leave it to be. A match on it is the whole switch: a function for each mode would
+// have the digit of `LowDigit` beside it.
 #[derive(Clone, Copy)]
 enum Mode {
     Between,

@@ -12,6 +12,7 @@ pub struct Capacities {
     pub rows: usize,
 }
 
+// One range; six lines of `in_range` name the six of a workbench.
 fn within(low: usize, high: usize, n: usize) -> bool
     ensures { result ≡ between low high n }
 {
