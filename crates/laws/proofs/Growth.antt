@@ -1,5 +1,6 @@
 -- The parts of a type, where more is held, and where the type may be entered.
 use Rattle.std.proofs.Common.{◌≡◌, ℕ, ◌<◌, ◌≤◌, true, not, List, [], ◌∷◌, length, arith, ltb-true}
+use Rattle.std.proofs.ByRecursion.{All-weaker}
 use Rattle.std.proofs.lemmas.Bool.{and_parts}
 use Rattle.tables.specs.declared.term_type.FieldType.{FieldType}
 use Rattle.tables.specs.declared.term_type.TermType.TheVariants.{Entity, Set, Option, Record}
@@ -9,13 +10,9 @@ use Rattle.tables.specs.Contents.{Contents, type_at}
 use Rattle.tables.specs.Shapes.{is_name, is_type, is_option, field_fits, ascending, fits}
 use Rattle.laws.specs.Sound.{PartsBelow}
 
-pub each_weaker : {X : Type 0} (P Q : X → Type 0) → ((x : X) → P x → Q x) → (xs : List X) → AllByRecursion P xs → AllByRecursion Q xs
-each_weaker P Q f [] h = tt
-each_weaker P Q f (x ∷ xs) h = (f x h.0, each_weaker P Q f xs h.1)
-
 pub parts_more : (m m' n : ℕ) → m ≤ m' → (t : Type') → PartsBelow m n t → PartsBelow m' n t
 parts_more m m' n l (Entity x) h = omega arith
-parts_more m m' n l (Record fs) h = each_weaker _ _ (λ f p. (omega (arith, p.0), p.1)) fs h
+parts_more m m' n l (Record fs) h = All-weaker _ _ (λ f p. (omega (arith, p.0), p.1)) fs h
 parts_more m m' n l t h = h
 
 fields_below : (w : Contents) (fs : List FieldType) → list_all (field_fits w) fs ≡ true → AllByRecursion (λ f. (f.name.0 < length w.names) × (f.ty.0 < length w.types)) fs

@@ -1,7 +1,8 @@
 ghost use Rattle.std.specs.Prelude.{◌≡◌, ◌≢◌, ℕ, List, ◌∷◌, MatchOption};
 ghost use Rattle.pattern.specs.Like.{matches};
 
-// The number in a pattern that stands for any run of bytes, also the empty one.
+// The number in a pattern that stands for any run of bytes, also the empty one. Patterns are numbers and no enum, since a
+// number above it is allowed too, and matches nothing.
 pub const ANY_RUN: u16 = 256;
 
 // What follows a run in the pattern, and the text from which it is tried.

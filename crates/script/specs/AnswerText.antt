@@ -12,20 +12,22 @@ use Rattle.tables.specs.Types.{Type'}
 use Rattle.tables.specs.Words.{table_word, refusal_word}
 use Rattle.script.specs.declared.answers.Answer.{Answer}
 use Rattle.script.specs.declared.answers.Answer.TheVariants.{Done, Number, Name, «Type» as TypeOf, Cells}
+use Rattle.script.specs.declared.types.Basic.TheVariants as Basic
+use Rattle.script.specs.Basics.{basic_word}
 use Rattle.script.specs.Print.{quoted}
 
 -- a field of a record type, where `text` gives its type
 abbrev pub field_text : Contents → (ℕ → List ℕ) → FieldType → List ℕ
 field_text w text x = codes " (" ++ (quoted (name_at w x.name.0) ++ (codes " " ++ (text x.ty.0 ++ codes ")")))
 
--- a type, where `text` gives its parts
+-- a type, where `text` gives its parts; one without parts is the word that is read for it
 abbrev pub shape_text : Contents → (ℕ → List ℕ) → Type' → List ℕ
-shape_text w text BoolT = codes "bool"
-shape_text w text Long = codes "long"
-shape_text w text String = codes "string"
-shape_text w text Decimal = codes "decimal"
-shape_text w text Datetime = codes "datetime"
-shape_text w text Duration = codes "duration"
+shape_text w text BoolT = basic_word Basic.Bool
+shape_text w text Long = basic_word Basic.Long
+shape_text w text String = basic_word Basic.String
+shape_text w text Decimal = basic_word Basic.Decimal
+shape_text w text Datetime = basic_word Basic.Datetime
+shape_text w text Duration = basic_word Basic.Duration
 shape_text w text (Entity n) = codes "(entity " ++ (quoted (name_at w n.0) ++ codes ")")
 shape_text w text (Set t) = codes "(set " ++ (text t.0 ++ codes ")")
 shape_text w text (Option t) = codes "(option " ++ (text t.0 ++ codes ")")

@@ -50,9 +50,9 @@ impl Form {
             .ok_or_else(|| self.bad("no unsigned number of 64 bits"))
     }
 
-    // The first part of a list and the others. What is no list is refused with the message.
-    pub fn parts(&self, no_list: &'static str) -> Result<(&Form, &[Form]), Fault>
-        ensures { IfOk result (λ p. StandWithin (p.0.now ∷ p.1.now) self.now) }
+    // The parts of a list. What is no list is refused with the message.
+    pub fn parts(&self, no_list: &'static str) -> Result<Parts<'_>, Fault>
+        ensures { IfOk result (λ p. StandWithin (p.first.now ∷ p.others.now) self.now) }
     {
         let Content::List(parts) = &self.content else {
             return Err(self.bad(no_list));
@@ -60,24 +60,39 @@ impl Form {
         let [first, others @ ..] = parts.as_slice() else {
             return Err(self.bad("an empty list"));
         };
-        Ok((first, others))
+        Ok(Parts {
+            list: self,
+            first,
+            others,
+        })
     }
+}
 
-    // Some parts of this list, of which there have to be so many.
-    pub fn exactly<'a, const N: usize>(&self, parts: &'a [Form]) -> Result<&'a [Form; N], Fault>
-        ensures { IfOk result (λ a. a.now ≡ parts.now) }
+// The parts of a list: the first, which is its word, and the others.
+#[derive(Clone, Copy)]
+pub struct Parts<'a> {
+    list: &'a Form,
+    pub first: &'a Form,
+    pub others: &'a [Form],
+}
+
+impl<'a> Parts<'a> {
+    // The others, of which there have to be so many.
+    pub fn exactly<const N: usize>(&self) -> Result<&'a [Form; N], Fault>
+        ensures { IfOk result (λ a. a.now ≡ self.now.others.now) }
     {
-        match parts.split_first_chunk() {
+        match self.others.split_first_chunk() {
             Some((parts, [])) => Ok(parts),
             Some((_, [more, ..])) => Err(more.bad("a list with a part too many")),
-            None => Err(self.bad("a list with a part too few")),
+            None => Err(self.list.bad("a list with a part too few")),
         }
     }
-    // The only one of some parts of this list.
-    pub fn only<'a>(&self, parts: &'a [Form]) -> Result<&'a Form, Fault>
-        ensures { IfOk result (λ part. parts.now ≡ part.now ∷ []) }
+
+    // The only one of the others.
+    pub fn only(&self) -> Result<&'a Form, Fault>
+        ensures { IfOk result (λ part. self.now.others.now ≡ part.now ∷ []) }
     {
-        let [part] = self.exactly::<1>(parts)?;
+        let [part] = self.exactly::<1>()?;
         Ok(part)
     }
 }

@@ -24,8 +24,8 @@ impl fmt::Display for Shown<'_, TypeId> {
     }
 }
 
-// These two call each other, where `fmt` would print a part with `write!`: a `fmt` may lead back to
-// itself only at a type that contains itself.
+// These two call each other. `fmt` does not print a part with `write!`: a `fmt` that calls itself is proved only for a
+// type whose values hold values of it, and a type here holds the numbers of its parts.
 impl Shown<'_, TypeId> {
     #[cycle(types)]
     fn write<W: fmt::Write>(self, f: &mut fmt::Formatter<W>) -> fmt::Result

@@ -30,17 +30,30 @@ pub fn is_skipped(line: &[u8]) -> bool
         .is_none_or(|byte| *byte == b';')
 }
 
-// The digit of an escape.
-fn hex_digit(column: usize, byte: u8) -> Result<u8, Fault> {
-    match byte {
-        b'0'..=b'9' => Ok(byte - b'0'),
-        b'a'..=b'f' => Ok(byte - b'a' + 10),
-        _ => Err(Fault::bad(column, "an escape without two digits of 0-9a-f")),
+// A byte of the line and its column.
+#[derive(Clone, Copy)]
+struct Next {
+    column: usize,
+    byte: u8,
+}
+
+impl Next {
+    fn bad(self, message: &'static str) -> Fault {
+        Fault::bad(self.column, message)
+    }
+
+    // The digit of an escape.
+    fn hex_digit(self) -> Result<u8, Fault> {
+        match self.byte {
+            b'0'..=b'9' => Ok(self.byte - b'0'),
+            b'a'..=b'f' => Ok(self.byte - b'a' + 10),
+            _ => Err(self.bad("an escape without two digits of 0-9a-f")),
+        }
     }
 }
 
-// What the bytes before the next one leave it to be. A match on it is the whole switch: a function for each mode would
-// have the digit of `LowDigit` beside it.
+// What the bytes before the next one leave it to be. Patterns over the rest of the line in its place would each have to
+// say what a line lacks that ends within them; `finish` says it once for each mode.
 #[derive(Clone, Copy)]
 enum Mode {
     Between,
@@ -85,17 +98,17 @@ impl Reader {
     }
 
     // A form may begin within a list, or as the only one of its line.
-    fn check_place(&self, column: usize) -> Result<(), Fault> {
+    fn check_place(&self, next: Next) -> Result<(), Fault> {
         if self.open.is_empty() && self.form.is_some() {
-            return Err(Fault::bad(column, "a second form on the line"));
+            return Err(next.bad("a second form on the line"));
         }
         Ok(())
     }
 
-    fn begin(&mut self, column: usize, mode: Mode) -> Result<(), Fault> {
-        self.check_place(column)?;
+    fn begin(&mut self, next: Next, mode: Mode) -> Result<(), Fault> {
+        self.check_place(next)?;
         self.mode = mode;
-        self.column = column;
+        self.column = next.column;
         Ok(())
     }
 
@@ -118,31 +131,33 @@ impl Reader {
         self.add(self.column, content(bytes))
     }
 
-    fn open_list(&mut self, column: usize) -> Result<(), Fault> {
-        self.check_place(column)?;
+    fn open_list(&mut self, next: Next) -> Result<(), Fault> {
+        self.check_place(next)?;
         if self.open.len() >= MAX_DEPTH {
-            return Err(Fault::bad(column, "nested too deep"));
+            return Err(next.bad("nested too deep"));
         }
-        let parts = Vec::new(self.heap);
-        self.open.push(Open { column, parts })?;
+        self.open.push(Open {
+            column: next.column,
+            parts: Vec::new(self.heap),
+        })?;
         Ok(())
     }
 
-    fn close_list(&mut self, column: usize) -> Result<(), Fault> {
+    fn close_list(&mut self, next: Next) -> Result<(), Fault> {
         let Some(Open { column, parts }) = self.open.pop() else {
-            return Err(Fault::bad(column, "a closing parenthesis too many"));
+            return Err(next.bad("a closing parenthesis too many"));
         };
         self.add(column, Content::List(parts))
     }
 
-    fn between(&mut self, column: usize, byte: u8) -> Result<(), Fault> {
-        match byte {
-            b'(' => self.open_list(column),
-            b')' => self.close_list(column),
-            b'"' => self.begin(column, Mode::Text),
-            _ if is_blank(byte) => Ok(()),
-            _ => {
-                self.begin(column, Mode::Atom)?;
+    fn between(&mut self, next: Next) -> Result<(), Fault> {
+        match next.byte {
+            b'(' => self.open_list(next),
+            b')' => self.close_list(next),
+            b'"' => self.begin(next, Mode::Text),
+            byte if is_blank(byte) => Ok(()),
+            byte => {
+                self.begin(next, Mode::Atom)?;
                 self.keep(byte)
             }
         }
@@ -153,12 +168,12 @@ impl Reader {
         Ok(())
     }
 
-    fn in_atom(&mut self, column: usize, byte: u8) -> Result<(), Fault> {
-        if is_blank(byte) || matches!(byte, b'(' | b')' | b'"') {
+    fn in_atom(&mut self, next: Next) -> Result<(), Fault> {
+        if is_blank(next.byte) || matches!(next.byte, b'(' | b')' | b'"') {
             self.end(Content::Atom)?;
-            return self.between(column, byte);
+            return self.between(next);
         }
-        self.keep(byte)
+        self.keep(next.byte)
     }
 
     fn in_text(&mut self, byte: u8) -> Result<(), Fault> {
@@ -172,26 +187,26 @@ impl Reader {
         }
     }
 
-    fn in_escape(&mut self, column: usize, byte: u8) -> Result<(), Fault> {
-        if byte != b'x' {
-            return Err(Fault::bad(column, "an escape other than \\x"));
+    fn in_escape(&mut self, next: Next) -> Result<(), Fault> {
+        if next.byte != b'x' {
+            return Err(next.bad("an escape other than \\x"));
         }
         self.mode = Mode::HighDigit;
         Ok(())
     }
 
-    fn step(&mut self, column: usize, byte: u8) -> Result<(), Fault> {
+    fn step(&mut self, next: Next) -> Result<(), Fault> {
         match self.mode {
-            Mode::Between => self.between(column, byte),
-            Mode::Atom => self.in_atom(column, byte),
-            Mode::Text => self.in_text(byte),
-            Mode::Escape => self.in_escape(column, byte),
+            Mode::Between => self.between(next),
+            Mode::Atom => self.in_atom(next),
+            Mode::Text => self.in_text(next.byte),
+            Mode::Escape => self.in_escape(next),
             Mode::HighDigit => {
-                self.mode = Mode::LowDigit(hex_digit(column, byte)?);
+                self.mode = Mode::LowDigit(next.hex_digit()?);
                 Ok(())
             }
             Mode::LowDigit(high) => {
-                let low = hex_digit(column, byte)?;
+                let low = next.hex_digit()?;
                 self.mode = Mode::Text;
                 self.keep(high << 4 | low)
             }
@@ -216,7 +231,10 @@ impl Reader {
 pub fn read_line(heap: Global, line: &[u8]) -> Result<Form, Fault> {
     let mut reader = Reader::new(heap);
     for (column, byte) in (1..).zip(line) {
-        reader.step(column, *byte)?;
+        reader.step(Next {
+            column,
+            byte: *byte,
+        })?;
     }
     reader.finish(line.len().saturating_add(1))
 }

@@ -17,14 +17,14 @@ pub enum Request<'a> {
     Capacities,
 }
 
-// The six numbers that follow the word `open`.
-fn read_capacities(line: &Form, arguments: &[Form]) -> Result<Capacities, Fault> {
+// The six numbers that follow the word `open`. A part that is no number is refused before a part too few or too many.
+fn read_capacities(parts: &Parts) -> Result<Capacities, Fault> {
     let mut numbers = [0; 6];
-    for (number, argument) in numbers.iter_mut().zip(arguments) {
+    for (number, argument) in numbers.iter_mut().zip(parts.others) {
         // One past a usize is refused as too large, as the largest usize is.
         *number = usize::try_from(argument.number()?).unwrap_or(usize::MAX);
     }
-    line.exactly::<6>(arguments)?;
+    parts.exactly::<6>()?;
     let [terms, types, names, bytes, lists, rows] = numbers;
     Ok(Capacities {
         terms,
@@ -37,23 +37,23 @@ fn read_capacities(line: &Form, arguments: &[Form]) -> Result<Capacities, Fault>
 }
 
 // A request with no argument.
-fn alone<'a>(line: &Form, arguments: &[Form], request: Request<'a>) -> Result<Request<'a>, Fault> {
-    line.exactly::<0>(arguments)?;
+fn alone<'a>(parts: &Parts, request: Request<'a>) -> Result<Request<'a>, Fault> {
+    parts.exactly::<0>()?;
     Ok(request)
 }
 
 pub fn read_request(heap: Global, line: &Form) -> Result<Request<'_>, Fault> {
-    let (word, arguments) = line.parts("no request")?;
-    match word.atom() {
-        Some(b"open") => Ok(Request::Open(read_capacities(line, arguments)?)),
-        Some(b"seal") => alone(line, arguments, Request::Seal),
-        Some(b"enter-name") => Ok(Request::EnterName(line.only(arguments)?.name()?)),
-        Some(b"enter-type") => Ok(Request::EnterType(read_type(heap, line.only(arguments)?)?)),
-        Some(b"show-name") => Ok(Request::ShowName(line.only(arguments)?.number()?)),
-        Some(b"show-type") => Ok(Request::ShowType(line.only(arguments)?.number()?)),
-        Some(b"counts") => alone(line, arguments, Request::Counts),
-        Some(b"capacities") => alone(line, arguments, Request::Capacities),
-        Some(_) => Err(word.bad("an unknown request")),
-        None => Err(word.bad("no request")),
+    let parts = line.parts("no request")?;
+    match parts.first.atom() {
+        Some(b"open") => Ok(Request::Open(read_capacities(&parts)?)),
+        Some(b"seal") => alone(&parts, Request::Seal),
+        Some(b"enter-name") => Ok(Request::EnterName(parts.only()?.name()?)),
+        Some(b"enter-type") => Ok(Request::EnterType(read_type(heap, parts.only()?)?)),
+        Some(b"show-name") => Ok(Request::ShowName(parts.only()?.number()?)),
+        Some(b"show-type") => Ok(Request::ShowType(parts.only()?.number()?)),
+        Some(b"counts") => alone(&parts, Request::Counts),
+        Some(b"capacities") => alone(&parts, Request::Capacities),
+        Some(_) => Err(parts.first.bad("an unknown request")),
+        None => Err(parts.first.bad("no request")),
     }
 }

@@ -1,7 +1,13 @@
 // A session: a workbench, and the answers to the lines of a script that works on it.
-ghost use Rattle.std.specs.Prelude.{◌≡◌, true, IfOk};
+ghost use Rattle.std.specs.Prelude.{◌≡◌, true, IfOk, Some, Ok, Err, string_bytes};
 ghost use Rattle.script.specs.Sessions.{Starts, Answered, OnBad, Lines};
 ghost use Rattle.script.specs.Skipped.{skipped};
+ghost use Rattle.script.specs.Held.{held};
+ghost use Rattle.script.specs.AnswerText.{answer_text, refusal_text};
+ghost use Rattle.script.specs.declared.answers.Answer.{Answer};
+ghost use Rattle.script.specs.declared.fault.Fault.TheVariants.{Refused};
+ghost use Rattle.tables.specs.Contents.{Contents};
+ghost use Rattle.tables.specs.declared.result.CompileError.{CompileError};
 
 use crate::answers::*;
 use crate::enter::enter_type;
@@ -16,7 +22,7 @@ use tables::capacities::*;
 use tables::ids::*;
 use tables::result::*;
 use tables::storage::*;
-use workbench::bench::*;
+use workbench::stages::*;
 
 #[derive(Drop)]
 struct Session {
@@ -101,7 +107,10 @@ impl Session {
         self.carry_out(&line, request)
     }
 
-    fn text(&self, number: usize, response: Result<Answer, Fault>) -> Result<String, AllocError> {
+    fn text(&self, number: usize, response: Result<Answer, Fault>) -> Result<String, AllocError>
+        ensures answers { (w : Contents) (a : Answer) → held self.now.state ≡ Some w → response ≡ Ok a → IfOk result (λ t. string_bytes t ≡ answer_text w a) }
+        ensures refusals { (w : Contents) (e : CompileError) → held self.now.state ≡ Some w → response ≡ Err (Refused e) → IfOk result (λ t. string_bytes t ≡ refusal_text w e) }
+    {
         let Some(tables) = self.state.tables() else {
             return format!(in self.heap; "err {}", CompileError::NoMemory);
         };

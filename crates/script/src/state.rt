@@ -9,7 +9,7 @@ use tables::ids::*;
 use tables::result::*;
 use tables::storage::*;
 use tables::term_type::*;
-use workbench::bench::*;
+use workbench::stages::*;
 
 #[derive(Drop)]
 pub enum State {
@@ -24,6 +24,8 @@ pub enum State {
 #[derive(Clone, Copy, PartialEq, Eq, Debug)]
 pub struct AlreadySealed;
 
+// The calls of both stages, each once. A closure over the workbench in place of the three matches would have to be generic
+// in the stage, which no closure is.
 impl State {
     pub fn name(&mut self, bytes: &[u8]) -> Result<NameId, CompileError>
         ensures { On (name_call bytes.now) (held self.old) result (held self.new) }

@@ -4,7 +4,7 @@ use native.Mathlib.Numerals.{unary_clauses}
 use Rattle.std.specs.Cmp.Lexicographic.{slice_partial_cmp}
 use Rattle.std.specs.List.{AllAdjacentBelow, IsAllAdjacentAnswer}
 use Rattle.std.specs.Ordering.{nat_cmp, is_lt, is_some_and}
-use Rattle.std.proofs.lemmas.Bool.{and_from}
+use Rattle.std.proofs.lemmas.Bool.{and_from, and_right}
 use Rattle.std.proofs.lemmas.Bool.Decides.{nat_tests}
 use Rattle.std.proofs.lemmas.Cmp.{same_from_slice_cmp_tested}
 use Rattle.tables.specs.declared.term_type.FieldType.{FieldType}
@@ -25,15 +25,11 @@ module _ (w : Contents) where
   ascends f [] h = refl
   ascends f (g ∷ gs) h = and_from (in_order f g) (ascending_after w g gs) (sym (h 0 f (omega arith))) (ascends g gs (λ k d l. simp unary_clauses (simp unary_clauses at (h (suc k) d (omega arith)))))
 
-  and_false : (a b : Bool) → b ≡ false → (a && b) ≡ false
-  and_false true b e = e
-  and_false false b e = refl
-
   falls : (f : FieldType) (fs : List FieldType) (k : ℕ) → k + 1 < length (f ∷ fs) → ((d : FieldType) → false ≡ in_order (get_or (f ∷ fs) k d) (get_or (f ∷ fs) (k + 1) d)) → ascending_after w f fs ≡ false
   unfolding ascending_after
   falls f [] k l h = absurd (omega arith)
   falls f (g ∷ gs) zero l h = ap (λ b. b && ascending_after w g gs) (sym (h f))
-  falls f (g ∷ gs) (suc k) l h = and_false (in_order f g) _ (falls g gs k (omega arith) (λ d. simp unary_clauses (simp unary_clauses at (h d))))
+  falls f (g ∷ gs) (suc k) l h = and_right (in_order f g) _ (falls g gs k (omega arith) (λ d. simp unary_clauses (simp unary_clauses at (h d))))
 
   pub ascending-adjacent : (fs : List FieldType) (r : Bool) → IsAllAdjacentAnswer (λ x y b. b ≡ in_order x y) fs r → r ≡ ascending w fs
   ascending-adjacent [] true h = refl

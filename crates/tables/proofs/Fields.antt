@@ -1,5 +1,6 @@
 -- The equality that is derived for types is that of their definition.
-use Rattle.std.proofs.Common.{◌≡◌, Bool, true, false, ◌&&◌, List, refl}
+use Rattle.std.proofs.Common.{◌≡◌, List, refl, sym}
+use Rattle.std.proofs.Math.Bool.{and-true}
 use denote.RattleType.{RattleType}
 use Rattle.std.specs.declared.cmp.PartialEq.{Ghosts}
 use Rattle.std.specs.Cmp.Lexicographic.{pointwise}
@@ -10,10 +11,6 @@ use Rattle.tables.specs.declared.term_type.TermType.TheVariants.{Bool as BoolT, 
 use Rattle.tables.specs.Spans.{with_fields}
 use Rattle.tables.specs.Types.{same_field, same_type}
 
-and_true : (b : Bool) → b ≡ (b && true)
-and_true true = refl
-and_true false = refl
-
 module _ (F : RattleType) (E : Ghosts F.Denot) (fields : F.Denot → List FieldType) (same : (x y : F.Denot) → E.eq x y ≡ pointwise same_field (fields x) (fields y)) where
   pub eq-same_type : (s t : TermType F.Denot) → (ghosts F E no_dict).eq s t ≡ same_type (with_fields fields s) (with_fields fields t)
   unfolding same_type
@@ -23,8 +20,8 @@ module _ (F : RattleType) (E : Ghosts F.Denot) (fields : F.Denot → List FieldT
   eq-same_type Decimal Decimal = refl
   eq-same_type Datetime Datetime = refl
   eq-same_type Duration Duration = refl
-  eq-same_type (Entity m) (Entity n) = and_true _
-  eq-same_type (Set s) (Set t) = and_true _
-  eq-same_type (Option s) (Option t) = and_true _
+  eq-same_type (Entity m) (Entity n) = sym (and-true _)
+  eq-same_type (Set s) (Set t) = sym (and-true _)
+  eq-same_type (Option s) (Option t) = sym (and-true _)
   eq-same_type (Record x) (Record y) = same x y
   eq-same_type s t = refl

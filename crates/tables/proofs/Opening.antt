@@ -1,5 +1,5 @@
 -- The names that opening enters find room.
-use Rattle.std.proofs.Common.{◌≡◌, true, Ok, Err, codes, Result, ap, ◌∙◌, arith}
+use Rattle.std.proofs.Common.{◌≡◌, true, Ok, codes, Result, ap, ◌∙◌, arith}
 use Rattle.tables.specs.declared.capacities.Capacities.{Capacities}
 use Rattle.tables.specs.declared.ids.NameId.{NameId}
 use Rattle.tables.specs.declared.result.CompileError.{CompileError}
@@ -38,6 +38,3 @@ module _ (c : Capacities) (e : in_range c ≡ true) where
     named_second call₂ =
         let o = ap (enter_name (codes "tag")) named_first.0 ∙ second_name in
         (call₂.0 ∙ ap (λ z. z.0) o, call₂.1 ∙ ap (λ z. z.1) o)
-
-pub ok_not_err : {r : Result NameId CompileError} {n : NameId} {e : CompileError} → r ≡ Ok n → r ≡ Err e → ⊥
-ok_not_err p q = cc

@@ -1,5 +1,5 @@
 -- What it says that no table lacks cells.
-use Rattle.std.proofs.Common.{◌≡◌, ℕ, ◌-◌, ◌<◌, ◌≤◌, Bool, true, false, cond, ◌&&◌, ltb, leb, List, length, Some, None, Option, sym, refl, ap, subst, ap₂, ltb-true, lt-ltb, le-leb, leb-true}
+use Rattle.std.proofs.Common.{◌≡◌, ℕ, ◌-◌, ◌<◌, ◌≤◌, Bool, true, false, cond, ◌&&◌, ltb, leb, List, length, Some, None, Option, refl, ap, ap₂, ltb-true, lt-ltb, le-leb, leb-true}
 use Rattle.std.proofs.lemmas.Bool.{and_parts, and_from}
 use Rattle.tables.specs.declared.result.Table.{Table}
 use Rattle.tables.specs.declared.result.Table.TheVariants.{Types, Names, Lists}
@@ -7,14 +7,10 @@ use Rattle.tables.specs.Contents.{Contents}
 use Rattle.tables.specs.Types.{Type', fields_of}
 use Rattle.tables.specs.Kinds.{name_kind, type_kind}
 
-abbrev is_none : {A : Type 0} → Option A → Type 0
-is_none None = Unit {0}
-is_none (Some a) = ⊥
-
 -- The test passed, where what follows a failed one is `Some`.
 passed : (b : Bool) (x : Option Table) (t : Table) → cond b x (Some t) ≡ None → (b ≡ true) × (x ≡ None)
 passed true x t e = (refl, e)
-passed false x t e = absurd (subst is_none (sym e) tt)
+passed false x t e = absurd (cc)
 
 pub name_room : (s : List ℕ) (w : Contents) → name_kind.lacking s w ≡ None → (length w.names < w.capacities.names) × (length s ≤ w.capacities.bytes - w.bytes)
 name_room s w e =

@@ -16,20 +16,20 @@ with_fields-MapsFields f g R e t u m = ap (with_fields g) m
 
 module _ {X : Type 0} where
   -- One more element passes the test, and what passed passes a weaker one.
-  pub every_push : (p q : X → Bool) → ((x : X) → p x ≡ true → q x ≡ true) → (xs : List X) (x : X) → list_all p xs ≡ true → q x ≡ true → list_all q (xs ++ x ∷ []) ≡ true
-  every_push p q w [] x h g = and_from (q x) true g refl
-  every_push p q w (y ∷ ys) x h g =
+  pub list_all-push : (p q : X → Bool) → ((x : X) → p x ≡ true → q x ≡ true) → (xs : List X) (x : X) → list_all p xs ≡ true → q x ≡ true → list_all q (xs ++ x ∷ []) ≡ true
+  list_all-push p q w [] x h g = and_from (q x) true g refl
+  list_all-push p q w (y ∷ ys) x h g =
       let (a, b) = and_parts (p y) (list_all p ys) h in
-      and_from (q y) (list_all q (ys ++ x ∷ [])) (w y a) (every_push p q w ys x b g)
+      and_from (q y) (list_all q (ys ++ x ∷ [])) (w y a) (list_all-push p q w ys x b g)
 
   -- Two functions that agree where the test passes.
-  pub map_every : {Y : Type 0} (p : X → Bool) (f g : X → Y) → ((x : X) → p x ≡ true → f x ≡ g x) → (xs : List X) → list_all p xs ≡ true → map f xs ≡ map g xs
-  map_every p f g e [] h = refl
-  map_every p f g e (x ∷ xs) h = let (a, b) = and_parts (p x) (list_all p xs) h in ap₂ ◌∷◌ (e x a) (map_every p f g e xs b)
+  pub map_list_all : {Y : Type 0} (p : X → Bool) (f g : X → Y) → ((x : X) → p x ≡ true → f x ≡ g x) → (xs : List X) → list_all p xs ≡ true → map f xs ≡ map g xs
+  map_list_all p f g e [] h = refl
+  map_list_all p f g e (x ∷ xs) h = let (a, b) = and_parts (p x) (list_all p xs) h in ap₂ ◌∷◌ (e x a) (map_list_all p f g e xs b)
 
   -- One more element read by f, where those before it read by f as by g.
   pub map_behind : {Y : Type 0} (p : X → Bool) (f g : X → Y) → ((x : X) → p x ≡ true → f x ≡ g x) → (xs : List X) (x : X) → list_all p xs ≡ true → map f (xs ++ x ∷ []) ≡ map g xs ++ f x ∷ []
-  map_behind p f g e xs x h = map_push f xs x ∙ ap (λ l. l ++ f x ∷ []) (map_every p f g e xs h)
+  map_behind p f g e xs x h = map_push f xs x ∙ ap (λ l. l ++ f x ∷ []) (map_list_all p f g e xs h)
 
 -- What is put behind changes no part that lay within the list.
 pub part_kept : {X : Type 0} (xs ys : List X) (s : Span) → within (length xs) s ≡ true → part (xs ++ ys) s ≡ part xs s
@@ -63,7 +63,7 @@ module _ (bs : List ℕ) (ns : List Span) (s : List ℕ) (h : list_all (within (
   pub names_within : list_all (within (length (bs ++ s))) (ns ++ record { first = length bs; count = length s } ∷ []) ≡ true
   names_within =
       let n = length-append bs s in
-      every_push (within (length bs)) (within (length (bs ++ s))) (within_more (length bs) (length (bs ++ s)) (omega arith))
+      list_all-push (within (length bs)) (within (length (bs ++ s))) (within_more (length bs) (length (bs ++ s)) (omega arith))
       ns (record { first = length bs; count = length s }) h (le-leb (length bs + length s) (length (bs ++ s)) (omega arith))
 
 -- A type whose fields gs are put behind the others, at the span s: the cell u that holds it reads as the type, and lies within the list cells.
@@ -91,4 +91,4 @@ module _ {X Y : Type 0} (fs gs : List X) (f : Y → List X) (R : Y → Span → 
     types_within =
         let n = ap length lists ∙ length-append fs gs in
         ap (list_all (record_within (length fs'))) cells
-        ∙ every_push (record_within (length fs)) (record_within (length fs')) (record_more (length fs) (length fs') (omega arith)) ts u h (lies_within t u cell)
+        ∙ list_all-push (record_within (length fs)) (record_within (length fs')) (record_more (length fs) (length fs') (omega arith)) ts u h (lies_within t u cell)

@@ -12,7 +12,7 @@ pub struct Capacities {
     pub rows: usize,
 }
 
-// One range; six lines of `in_range` name the six of a workbench.
+// One of the six ranges. They are tested line by line: the fields have no order in which a loop could take them.
 fn within(low: usize, high: usize, n: usize) -> bool
     ensures { result ≡ between low high n }
 {
@@ -45,11 +45,11 @@ impl Capacities {
     pub(crate) fn in_range(self) -> bool
         ensures { result ≡ in_range self }
     {
-        within(2, 4096, self.terms)
-            && within(1, 512, self.types)
-            && within(2, 1024, self.names)
-            && within(9, 16384, self.bytes)
-            && within(0, 8192, self.lists)
-            && within(0, 200, self.rows)
+        within(Self::SMALLEST.terms, Self::LARGEST.terms, self.terms)
+            && within(Self::SMALLEST.types, Self::LARGEST.types, self.types)
+            && within(Self::SMALLEST.names, Self::LARGEST.names, self.names)
+            && within(Self::SMALLEST.bytes, Self::LARGEST.bytes, self.bytes)
+            && within(Self::SMALLEST.lists, Self::LARGEST.lists, self.lists)
+            && within(Self::SMALLEST.rows, Self::LARGEST.rows, self.rows)
     }
 }

@@ -56,6 +56,7 @@ impl<T: Copy, const MAX: usize> Cells<T, MAX> {
     {
         let first = self.len();
         self.held.extend_from_slice(cells).unwrap();
+        // As in `len`, nothing is lost.
         Span {
             first,
             count: cells.len() as u16,

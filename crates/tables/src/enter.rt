@@ -10,7 +10,8 @@ use crate::storage::*;
 use crate::structure::*;
 use crate::term_type::*;
 
-// Two calls and not one that is generic: callers would need the trait, and with it what enters behind its back.
+// Two calls and not one that is generic: that one would make the trait `Structure` public, and with it `put`, which may
+// be called only where there is room.
 impl Tables {
     // The number of a name, which is entered where it is not held yet.
     #[tactic(auto, unfolding(crate::specs::Kinds::enter_name, crate::specs::Kinds::enter, crate::specs::Kinds::find))]

@@ -6,6 +6,7 @@ use std::marker::Model;
 
 // The tables of a workbench, seen as what they hold. The bytes of names and the fields of types lie in cells that all
 // share, at spans of them, and not in a String or a Vec each: no memory is asked for once the tables are open.
+// The lengths are those of `Capacities::LARGEST`, written out: a const argument cannot be computed.
 #[derive(Drop)]
 pub struct Tables {
     pub(crate) terms: Cells<Term, 4096>,

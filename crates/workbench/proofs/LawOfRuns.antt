@@ -18,13 +18,13 @@ use Rattle.workbench.specs.Law.{Alike, PointsAt, RefusedCallsChangeNothing, Larg
 use Rattle.workbench.proofs.Lawful.{Later-trans, names_later, types_later, giving_lawful, calls_append, calls_later, calls_sound, calls_alike}
 
 -- A lawful step whose answers are what another statement says of them.
-told : {A : Type 0} {m : Contents → _} (P Q : A → Contents → Type 0) → ((a : A) (w : Contents) → P a w → Q a w) → Lawful m P → Lawful m Q
-told P Q h law = record { refused = law.refused; later = law.later; sound = law.sound; roomy = law.roomy; gives = λ w a e. h a _ (law.gives w a e) }
+weaker_answer : {A : Type 0} {m : Contents → _} (P Q : A → Contents → Type 0) → ((a : A) (w : Contents) → P a w → Q a w) → Lawful m P → Lawful m Q
+weaker_answer P Q h law = record { refused = law.refused; later = law.later; sound = law.sound; roomy = law.roomy; gives = λ w a e. h a _ (law.gives w a e) }
 
 step_lawful : (c : Call') → Lawful (step c) (PointsAt c)
 unfolding step
-step_lawful (name' s) = told _ (PointsAt (name' s)) (λ r w (n, e, h). subst (λ x. PointsAt (name' s) x w) e h) (giving_lawful Name _ _ (name_lawful s))
-step_lawful (type' t) = told _ (PointsAt (type' t)) (λ r w (n, e, h). subst (λ x. PointsAt (type' t) x w) e h) (giving_lawful TypeR _ _ (type_lawful t))
+step_lawful (name' s) = weaker_answer _ (PointsAt (name' s)) (λ r w (n, e, h). subst (λ x. PointsAt (name' s) x w) e h) (giving_lawful Name _ _ (name_lawful s))
+step_lawful (type' t) = weaker_answer _ (PointsAt (type' t)) (λ r w (n, e, h). subst (λ x. PointsAt (type' t) x w) e h) (giving_lawful TypeR _ _ (type_lawful t))
 
 -- What a number points at, later too.
 points_later : (c : Call') (r : Reply) {w v : Contents} → Later w v → PointsAt c r w → PointsAt c r v
@@ -38,8 +38,8 @@ after cs w = (calls cs w).0
 refused_calls_change_nothing : RefusedCallsChangeNothing
 unfolding runs calls
 refused_calls_change_nothing = (
-  (λ k ds d e p. calls_append PointsAt step_lawful ds (d ∷ []) (opening k) ∙ (step_lawful d).refused (after ds (opening k)) e p),
-  (λ k ds ss s e p. calls_append PointsAt step_lawful ss (s ∷ []) (after ds (opening k)) ∙ (step_lawful s).refused (after ss (after ds (opening k))) e p),
+  (λ k ds d e p. calls_append ds (d ∷ []) (opening k) ∙ (step_lawful d).refused (after ds (opening k)) e p),
+  (λ k ds ss s e p. calls_append ss (s ∷ []) (after ds (opening k)) ∙ (step_lawful s).refused (after ss (after ds (opening k))) e p),
 )
 
 each_structure_has_one_number : EachStructureHasOneNumber
@@ -67,14 +67,14 @@ numbers_last = (
   (λ k ds d r es ss p.
       let w = after ds (opening k) in
       let v = (step d w).0 in
-      let e = calls_append PointsAt step_lawful ds (d ∷ es) (opening k) in
+      let e = calls_append ds (d ∷ es) (opening k) in
       subst (λ u. PointsAt d r (after ss u)) (sym e)
       (points_later d r (Later-trans (calls_later PointsAt step_lawful es v) (calls_later PointsAt step_lawful ss (after es v)))
       ((step_lawful d).gives w r p))),
   (λ k ds ss s r ts p.
       let w = after ss (after ds (opening k)) in
       let v = (step s w).0 in
-      let e = calls_append PointsAt step_lawful ss (s ∷ ts) (after ds (opening k)) in
+      let e = calls_append ss (s ∷ ts) (after ds (opening k)) in
       subst (λ u. PointsAt s r u) (sym e)
       (points_later s r (calls_later PointsAt step_lawful ts v) ((step_lawful s).gives w r p))),
 )
@@ -99,4 +99,5 @@ held_once_prop w x y =
 
 -- The tables of every workbench in hand.
 pub held_once : {w : Contents} → Reached w → HeldOnce w
-held_once {w} r = ∥∥₁_elim r (held_once_prop w) (λ (k, ds, ss, e, q). subst HeldOnce (sym q) (each_structure_has_one_number k ds ss))
+unfolding runs calls
+held_once {w} r = ∥∥₁_elim r (held_once_prop w) (λ (k, cs, e, q). subst HeldOnce (sym q) (each_structure_has_one_number k cs []))

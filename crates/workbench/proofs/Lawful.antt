@@ -63,12 +63,12 @@ giving_lawful f m Q law =
       gives = λ w b p. let (a, q, e) = answered_ok f (m w).1 b p in (a, e, law.gives w a q);
     }
 
-module _ (Q : Call' → Reply → Contents → Type 0) (law : (c : Call') → Lawful (step c) (Q c)) where
-  pub calls_append : (bs cs : List Call') (w : Contents) → (calls (bs ++ cs) w).0 ≡ (calls cs (calls bs w).0).0
-  unfolding calls
-  calls_append [] cs w = refl
-  calls_append (b ∷ bs) cs w = calls_append bs cs (step b w).0
+pub calls_append : (bs cs : List Call') (w : Contents) → (calls (bs ++ cs) w).0 ≡ (calls cs (calls bs w).0).0
+unfolding calls
+calls_append [] cs w = refl
+calls_append (b ∷ bs) cs w = calls_append bs cs (step b w).0
 
+module _ (Q : Call' → Reply → Contents → Type 0) (law : (c : Call') → Lawful (step c) (Q c)) where
   pub calls_later : (cs : List Call') (w : Contents) → Later w (calls cs w).0
   unfolding calls
   calls_later [] w = Later-refl w

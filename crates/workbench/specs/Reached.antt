@@ -1,10 +1,10 @@
--- The tables that a workbench can hold: those that some run leaves.
+-- The tables that a workbench can hold: those that some calls lead to.
 use Rattle.std.specs.Prelude.{◌≡◌, true, List}
 use Rattle.tables.specs.declared.capacities.Capacities.{Capacities}
 use Rattle.tables.specs.Ranges.{in_range}
-use Rattle.tables.specs.Contents.{Contents}
-use Rattle.workbench.specs.Runs.{Call', runs}
+use Rattle.tables.specs.Contents.{Contents, opening}
+use Rattle.workbench.specs.Runs.{Call', calls}
 
--- Some calls on a draft, then some on the sealed workbench, lead to the tables. Sealing leaves them as they are, so those of a draft are reached so too, with no call after it.
+-- Some calls after opening lead to the tables. Sealing leaves them as they are, so this is said of a draft and of a sealed workbench alike: a run's tables are those of its calls on the draft and then on the sealed workbench, one list after the other.
 abbrev pub Reached : Contents → Type 0
-Reached w = ∥ ((k : Capacities) × (ds : List Call') × (ss : List Call') × (in_range k ≡ true) × (w ≡ (runs k ds ss).0)) ∥₁
+Reached w = ∥ ((k : Capacities) × (cs : List Call') × (in_range k ≡ true) × (w ≡ (calls cs (opening k)).0)) ∥₁

@@ -1,5 +1,5 @@
 #![tactic(auto)]
 
-pub mod bench;
 pub mod calls;
 pub mod run;
+pub mod stages;

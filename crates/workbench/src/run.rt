@@ -3,8 +3,8 @@ ghost use Rattle.workbench.specs.Runs.{call_of, calls as called};
 ghost use Rattle.workbench.specs.Ran.{Ran};
 ghost use Rattle.workbench.specs.Law.{LawOfRuns};
 
-use crate::bench::*;
 use crate::calls::*;
+use crate::stages::*;
 use std::alloc::Global;
 use tables::capacities::*;
 use tables::result::*;
@@ -35,6 +35,7 @@ fn make_calls<S>(
 }
 
 // Opens a workbench, makes calls on the draft, seals it, and makes calls on the sealed one.
+#[tactic(auto, using(crate::proofs::LawOfRuns::law_of_runs, crate::proofs::Turns::together))]
 pub fn run(
     heap: Global,
     capacities: Capacities,

@@ -4,7 +4,7 @@ use tables::capacities::*;
 use tables::ids::*;
 use tables::result::*;
 use tables::term_type::*;
-use workbench::bench::*;
+use workbench::stages::*;
 use workbench::calls::*;
 use workbench::run::run;
 

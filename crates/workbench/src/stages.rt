@@ -25,7 +25,7 @@ pub struct Drafting;
 
 // The stage at which no row can be declared any more.
 #[derive(Clone, Copy, PartialEq, Eq, Debug)]
-pub struct Closed;
+pub struct Settled;
 
 // A workbench at a stage. Some run leads to its tables.
 #[derive(Drop)]
@@ -47,7 +47,7 @@ impl<S> Model for Workbench<S> {
 
 pub type Draft = Workbench<Drafting>;
 
-pub type Sealed = Workbench<Closed>;
+pub type Sealed = Workbench<Settled>;
 
 impl Workbench<Drafting> {
     // A new workbench.
@@ -76,6 +76,7 @@ impl Workbench<Drafting> {
 
 impl<S> Workbench<S> {
     // Enters a name.
+    #[tactic(auto, unfolding(tables::specs::Calls::name_call))]
     pub fn name(&mut self, bytes: &[u8]) -> Result<NameId, CompileError>
         ensures { Now (name_call bytes.now self.old) result self.new }
     {
@@ -86,6 +87,7 @@ impl<S> Workbench<S> {
     }
 
     // Enters a type whose parts are entered already.
+    #[tactic(auto, unfolding(tables::specs::Calls::type_call))]
     pub fn term_type(&mut self, t: TermType<&[FieldType]>) -> Result<TypeId, CompileError>
         ensures { Now (type_call (type_of t.entry) self.old) result self.new }
     {
