@@ -4,9 +4,9 @@ use tables::capacities::*;
 use tables::ids::*;
 use tables::result::*;
 use tables::term_type::*;
-use workbench::stages::*;
 use workbench::calls::*;
 use workbench::run::run;
+use workbench::stages::*;
 
 fn refusal(heap: Global, capacities: Capacities) -> Option<CompileError> {
     match Draft::open(heap, capacities) {
