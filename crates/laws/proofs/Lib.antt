@@ -1,5 +1,6 @@
 pub mod Once
 pub mod SameTypes
+pub mod SameTerms
 pub mod Entry
 pub mod Growth
 pub mod Entries

@@ -19,17 +19,25 @@ module _ {X : Type 0} (d : X) (xs : List X) (x : X) where
   pub at_new : get_or (xs ++ x ∷ []) (length xs) d ≡ x
   at_new = get_or_push xs x d (length xs) refl
 
-  pub once_push : ((i j : ℕ) → i < length xs → j < length xs → get_or xs i d ≡ get_or xs j d → i ≡ j) → ((i : ℕ) → i < length xs → get_or xs i d ≡ x → ⊥)
-      → (i j : ℕ) → i < length (xs ++ x ∷ []) → j < length (xs ++ x ∷ []) → get_or (xs ++ x ∷ []) i d ≡ get_or (xs ++ x ∷ []) j d → i ≡ j
+-- Once more an element whose f none of the others has.
+module _ {X Y : Type 0} (f : X → Y) (d : X) (xs : List X) (x : X) where
+  pub once_push : ((i j : ℕ) → i < length xs → j < length xs → f (get_or xs i d) ≡ f (get_or xs j d) → i ≡ j) → ((i : ℕ) → i < length xs → f (get_or xs i d) ≡ f x → ⊥)
+      → (i j : ℕ) → i < length (xs ++ x ∷ []) → j < length (xs ++ x ∷ []) → f (get_or (xs ++ x ∷ []) i d) ≡ f (get_or (xs ++ x ∷ []) j d) → i ≡ j
   once_push once absent i j hi hj =
-      each_push xs x (λ i. get_or (xs ++ x ∷ []) i d ≡ get_or (xs ++ x ∷ []) j d → i ≡ j)
-      (λ i h. each_push xs x (λ j. get_or (xs ++ x ∷ []) i d ≡ get_or (xs ++ x ∷ []) j d → i ≡ j)
-      (λ j g e. once i j h g (sym (at_old i h) ∙ e ∙ at_old j g))
-      (λ e. absurd (absent i h (sym (at_old i h) ∙ e ∙ at_new))) j hj)
-      (each_push xs x (λ j. get_or (xs ++ x ∷ []) (length xs) d ≡ get_or (xs ++ x ∷ []) j d → length xs ≡ j)
-      (λ j g e. absurd (absent j g (sym (at_old j g) ∙ sym e ∙ at_new)))
+      each_push xs x (λ i. f (get_or (xs ++ x ∷ []) i d) ≡ f (get_or (xs ++ x ∷ []) j d) → i ≡ j)
+      (λ i h. each_push xs x (λ j. f (get_or (xs ++ x ∷ []) i d) ≡ f (get_or (xs ++ x ∷ []) j d) → i ≡ j)
+      (λ j g e. once i j h g (sym (old i h) ∙ e ∙ old j g))
+      (λ e. absurd (absent i h (sym (old i h) ∙ e ∙ new))) j hj)
+      (each_push xs x (λ j. f (get_or (xs ++ x ∷ []) (length xs) d) ≡ f (get_or (xs ++ x ∷ []) j d) → length xs ≡ j)
+      (λ j g e. absurd (absent j g (sym (old j g) ∙ sym e ∙ new)))
       (λ e. refl) j hj)
       i hi
+    where
+      old : (i : ℕ) → i < length xs → f (get_or (xs ++ x ∷ []) i d) ≡ f (get_or xs i d)
+      old i h = ap f (at_old d xs x i h)
+
+      new : f (get_or (xs ++ x ∷ []) (length xs) d) ≡ f x
+      new = ap f (at_new d xs x)
 
 -- What a search finds passes the test, and is in range.
 pub first_some : (p : ℕ → Bool) (n k i : ℕ) → first_from p n k ≡ Some i → (n ≤ i) × (i < n + k) × (p i ≡ true)

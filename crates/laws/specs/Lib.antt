@@ -1,3 +1,4 @@
 pub mod Trees
+pub mod TermTrees
 pub mod Sound
 pub mod Lawful

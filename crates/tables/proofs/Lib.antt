@@ -1,6 +1,8 @@
 pub mod Spans
 pub mod Search
 pub mod Fields
+pub mod SameTerms
+pub mod TermSpans
 pub mod Room
 pub mod Ranges
 pub mod Opening

@@ -2,10 +2,11 @@
 use Rattle.std.proofs.Common.{◌≡◌, ℕ, ◌-◌, ◌<◌, ◌≤◌, Bool, true, false, cond, ◌&&◌, ltb, leb, List, length, Some, None, Option, refl, ap, ap₂, ltb-true, lt-ltb, le-leb, leb-true}
 use Rattle.std.proofs.lemmas.Bool.{and_parts, and_from}
 use Rattle.tables.specs.declared.result.Table.{Table}
-use Rattle.tables.specs.declared.result.Table.TheVariants.{Types, Names, Lists}
+use Rattle.tables.specs.declared.result.Table.TheVariants.{Terms, Types, Names, Lists}
 use Rattle.tables.specs.Contents.{Contents}
 use Rattle.tables.specs.Types.{Type', fields_of}
-use Rattle.tables.specs.Kinds.{name_kind, type_kind}
+use Rattle.tables.specs.Terms.{Entry', list_cells}
+use Rattle.tables.specs.Kinds.{name_kind, type_kind, term_kind}
 
 -- The test passed, where what follows a failed one is `Some`.
 passed : (b : Bool) (x : Option Table) (t : Table) → cond b x (Some t) ≡ None → (b ≡ true) × (x ≡ None)
@@ -33,3 +34,12 @@ room_name s w l h =
 
 pub room_type : (t : Type') (w : Contents) → length w.types < w.capacities.types → length (fields_of t) ≤ w.capacities.lists - w.lists → type_kind.lacking t w ≡ None
 room_type t w l h = ap₂ (λ a b. cond a (cond b None (Some Lists)) (Some Types)) (lt-ltb _ _ l) (le-leb _ _ h)
+
+pub term_room : (e : Entry') (w : Contents) → term_kind.lacking e w ≡ None → (length w.terms < w.capacities.terms) × (list_cells e.term ≤ w.capacities.lists - w.lists)
+term_room e w h =
+    let (a, r) = passed (ltb (length w.terms) w.capacities.terms) _ _ h in
+    let b = (passed (leb (list_cells e.term) (w.capacities.lists - w.lists)) None _ r).0 in
+    (ltb-true (length w.terms) w.capacities.terms a, leb-true (list_cells e.term) (w.capacities.lists - w.lists) b)
+
+pub room_term : (e : Entry') (w : Contents) → length w.terms < w.capacities.terms → list_cells e.term ≤ w.capacities.lists - w.lists → term_kind.lacking e w ≡ None
+room_term e w l h = ap₂ (λ a b. cond a (cond b None (Some Lists)) (Some Terms)) (lt-ltb _ _ l) (le-leb _ _ h)

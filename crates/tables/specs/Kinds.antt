@@ -3,12 +3,14 @@ use Rattle.std.specs.Prelude.{◌≡◌, ℕ, zero, suc, ◌+◌, ◌-◌, Bool,
 use Rattle.std.specs.Str.{bytes_eq}
 use Rattle.tables.specs.declared.ids.NameId.{NameId}
 use Rattle.tables.specs.declared.ids.TypeId.{TypeId}
+use Rattle.tables.specs.declared.ids.TermId.{TermId}
 use Rattle.tables.specs.declared.result.CompileError.{CompileError}
 use Rattle.tables.specs.declared.result.CompileError.TheVariants.{Full}
 use Rattle.tables.specs.declared.result.Table.{Table}
-use Rattle.tables.specs.declared.result.Table.TheVariants.{Types, Names, Lists}
+use Rattle.tables.specs.declared.result.Table.TheVariants.{Terms, Types, Names, Lists}
 use Rattle.tables.specs.Types.{Type', fields_of, same_type}
-use Rattle.tables.specs.Contents.{Contents, name_at, type_at}
+use Rattle.tables.specs.Terms.{Term', Entry', list_cells, same_term}
+use Rattle.tables.specs.Contents.{Contents, name_at, type_at, entry_at, entry_of}
 
 -- What a call leaves in the tables, and what it answers.
 abbrev pub Outcome : Type 0 → Type 0
@@ -103,6 +105,26 @@ type_kind =
       };
     }
 
+-- Terms: one cell each, with type and literality, and a list cell for each element, field and place of a pattern.
+abbrev pub term_kind : Kind Entry'
+term_kind =
+    record {
+      count = λ w. length w.terms;
+      held = λ e w n. same_term (entry_at w n).term e.term;
+      lacking = λ e w.
+          cond (nat_lt (length w.terms) w.capacities.terms)
+          (cond (nat_le (list_cells e.term) (w.capacities.lists - w.lists)) None (Some Lists))
+          (Some Terms);
+      put = λ e w. record {
+        terms = w.terms ++ e ∷ [];
+        types = w.types;
+        names = w.names;
+        bytes = w.bytes;
+        lists = w.lists + list_cells e.term;
+        capacities = w.capacities;
+      };
+    }
+
 -- What is made of an answer.
 abbrev pub answering : {A B : Type 0} → (A → B) → Result A CompileError → Result B CompileError
 answering f (Ok a) = Ok (f a)
@@ -119,3 +141,7 @@ enter_name s = giving (λ n. record { 0 = n }) (enter name_kind s)
 -- Enters a type.
 unfoldable pub enter_type : Type' → Step TypeId
 enter_type t = giving (λ n. record { 0 = n }) (enter type_kind t)
+
+-- Enters a term of a type.
+unfoldable pub enter_term : Term' → TypeId → Step TermId
+enter_term t ty w = giving (λ n. record { 0 = n }) (enter term_kind (entry_of w t ty)) w

@@ -2,6 +2,7 @@ pub mod Ranges
 pub mod Spans
 pub mod Names
 pub mod Types
+pub mod Terms
 pub mod Contents
 pub mod Storage
 pub mod Kinds

@@ -1,6 +1,9 @@
 -- Where lists lie in the tables that hold them, and what a type reads with its fields in place of their span.
 use Rattle.std.specs.Prelude.{◌≡◌, ℕ, ◌+◌, Bool, true, List, take, drop, nat_le}
 use Rattle.tables.specs.declared.span.Span.{Span}
+use Rattle.tables.specs.declared.term.Op1.TheVariants.{StringLike}
+use Rattle.tables.specs.declared.term.Term.{Term}
+use Rattle.tables.specs.declared.term.Term.TheVariants.{Set as SetTerm, Record as RecordTerm, Unary}
 use Rattle.tables.specs.declared.term_type.TermType.{TermType}
 use Rattle.tables.specs.declared.term_type.TermType.TheVariants.{Bool as BoolT, Long, String, Decimal, Datetime, Duration, Entity, Set, Option, Record}
 
@@ -42,3 +45,10 @@ within m s = nat_le (s.first + s.count) m
 abbrev pub record_within : ℕ → TermType Span → Bool
 record_within m (Record s) = within m s
 record_within m t = true
+
+-- A set's elements, a record's fields and a pattern lie within the first e, f and p places.
+abbrev pub lists_within : ℕ → ℕ → ℕ → Term Span Span Span → Bool
+lists_within e f p (SetTerm t s) = within e s
+lists_within e f p (RecordTerm s) = within f s
+lists_within e f p (Unary (StringLike s) t) = within p s
+lists_within e f p t = true

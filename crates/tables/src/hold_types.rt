@@ -21,7 +21,7 @@ impl Structure for TermType<&[FieldType]> {
     fn lacking(&self, tables: &Tables) -> Option<Table> {
         if tables.types.free() == 0 {
             Some(Table::Types)
-        } else if self.fields().len() > tables.fields.free() {
+        } else if self.fields().len() > tables.free_lists() {
             Some(Table::Lists)
         } else {
             None

@@ -1,10 +1,12 @@
 ghost use Rattle.std.specs.Prelude.{◌≡◌};
 ghost use Rattle.tables.specs.Types.{type_of};
-ghost use Rattle.tables.specs.Contents.{name_at, type_at};
+ghost use Rattle.tables.specs.Terms.{term_of, with_term};
+ghost use Rattle.tables.specs.Contents.{name_at, type_at, entry_at};
 
 use crate::ids::*;
 use crate::part::part;
 use crate::storage::*;
+use crate::term::*;
 use crate::term_type::*;
 
 impl Tables {
@@ -26,6 +28,31 @@ impl Tables {
         match self.types.held.get(usize::from(t.0)) {
             Some(cell) => cell.map_fields(|span| part(fields, span)),
             None => TermType::Bool,
+        }
+    }
+
+    // What is held at the number of a term; false past the end.
+    pub fn term(&self, t: TermId) -> Entry<TermRef<'_>>
+        ensures { with_term term_of result ≡ entry_at self.now t.0 }
+    {
+        let elements = self.elements.held.as_slice();
+        let attributes = self.attributes.held.as_slice();
+        let patterns = self.patterns.held.as_slice();
+        match self.terms.held.get(usize::from(t.0)) {
+            Some(entry) => Entry {
+                term: entry.term.map_lists(
+                    |span| part(elements, span),
+                    |span| part(attributes, span),
+                    |span| part(patterns, span),
+                ),
+                ty: entry.ty,
+                literal: entry.literal,
+            },
+            None => Entry {
+                term: Term::Prim(TermPrim::Bool(false)),
+                ty: TypeId(0),
+                literal: true,
+            },
         }
     }
 }

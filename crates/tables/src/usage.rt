@@ -1,4 +1,4 @@
-ghost use Rattle.std.specs.Prelude.{◌≡◌};
+ghost use Rattle.std.specs.Prelude.{◌≡◌, ◌-◌};
 ghost use Rattle.tables.specs.Ranges.{Smaller, IsLimited};
 ghost use Rattle.tables.specs.Contents.{in_use};
 
@@ -6,6 +6,13 @@ use crate::capacities::*;
 use crate::storage::*;
 
 impl Tables {
+    // How many list cells are free.
+    pub(crate) fn free_lists(&self) -> usize
+        ensures { result ≡ self.now.capacities.lists - self.now.lists }
+    {
+        self.fields.capacity - self.in_use().lists
+    }
+
     // The capacities that the tables were opened with.
     pub fn capacities(&self) -> Capacities
         ensures value { result ≡ self.now.capacities }
@@ -31,7 +38,9 @@ impl Tables {
             types: self.types.held.len(),
             names: self.names.held.len(),
             bytes: self.bytes.held.len(),
-            lists: self.fields.held.len(),
+            lists: self.fields.held.len()
+                + (self.elements.held.len()
+                    + (self.attributes.held.len() + self.patterns.held.len())),
             rows: 0,
         }
     }

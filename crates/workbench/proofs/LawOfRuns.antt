@@ -95,6 +95,7 @@ held_once_prop w x y =
     λ i. record {
       names = λ a b h g e. ℕ_set a b (x.names a b h g e) (y.names a b h g e) i;
       types = λ a b h g e. ℕ_set a b (x.types a b h g e) (y.types a b h g e) i;
+      terms = λ a b h g e. ℕ_set a b (x.terms a b h g e) (y.terms a b h g e) i;
     }
 
 -- The tables of every workbench in hand.

@@ -29,7 +29,7 @@ abbrev pub LargerWorkbenchesAnswerAlike : Type 0
 LargerWorkbenchesAnswerAlike =
     (k l : Capacities) → Smaller k l → (ds : List Call') (ss : List Call') → Alike (runs k ds ss).1 (runs l ds ss).1
 
--- Two names have one number exactly when their bytes are the same, and two types exactly when their trees are.
+-- Two names have one number exactly when their bytes are the same, and two types, or two terms, exactly when their trees are.
 abbrev pub EachStructureHasOneNumber : Type 0
 EachStructureHasOneNumber = (k : Capacities) (ds : List Call') (ss : List Call') → HeldOnce (runs k ds ss).0
 

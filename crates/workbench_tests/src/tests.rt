@@ -3,6 +3,8 @@ use std::test::Fail;
 use tables::capacities::*;
 use tables::ids::*;
 use tables::result::*;
+use tables::storage::*;
+use tables::term::*;
 use tables::term_type::*;
 use workbench::calls::*;
 use workbench::run::run;
@@ -195,6 +197,59 @@ fn tables_exactly_full(rt: HostRuntime) -> Result<(), Fail> {
             ..capacities
         }
     );
+    Ok(())
+}
+
+fn number(n: i64) -> TermRef<'static> {
+    Term::Prim(TermPrim::Bitvec(n))
+}
+
+#[test]
+fn terms_are_held_once(rt: HostRuntime) -> Result<(), Fail> {
+    let capacities = Capacities {
+        terms: 6,
+        types: 3,
+        lists: 4,
+        ..Capacities::SMALLEST
+    };
+    let mut tables = Tables::open(rt.alloc(), capacities)?;
+    let long = tables.enter_type(TermType::Long)?;
+    let longs = tables.enter_type(TermType::Set(long))?;
+    let one = tables.enter_term(number(1), long)?;
+    assert_eq!(rt; one, TermId(2));
+    assert_eq!(rt; tables.enter_term(number(1), long), Ok(one));
+    assert_eq!(rt;
+        tables.enter_term(Term::Prim(TermPrim::Bool(true)), TypeId(0)),
+        Ok(TermId(1))
+    );
+    let id = NameId(0);
+    let x = Term::Var(TermVar { id, ty: long });
+    let variable = tables.enter_term(x, long)?;
+    let both = [one, variable];
+    let set = tables.enter_term(Term::Set(long, &both), longs)?;
+    assert_eq!(rt; tables.enter_term(Term::Set(long, &both), longs), Ok(set));
+    assert_eq!(rt;
+        (tables.term(variable).literal, tables.term(set).literal),
+        (false, false)
+    );
+    assert_eq!(rt; tables.in_use().lists, 2);
+    assert_eq!(rt;
+        tables.enter_term(Term::Set(long, &[one, one, one]), longs),
+        Err(CompileError::Full(Table::Lists))
+    );
+    let ones = tables.enter_term(Term::Set(long, &both[0..1]), longs)?;
+    assert_eq!(rt; ones, TermId(5));
+    assert_eq!(rt;
+        (tables.term(ones).literal, tables.term(ones).ty),
+        (true, longs)
+    );
+    assert_eq!(rt;
+        tables.enter_term(number(2), long),
+        Err(CompileError::Full(Table::Terms))
+    );
+    assert_eq!(rt; tables.in_use().lists, 3);
+    assert_eq!(rt; tables.term_fits(Term::Some(TermId(5))), true);
+    assert_eq!(rt; tables.term_fits(Term::Some(TermId(6))), false);
     Ok(())
 }
 

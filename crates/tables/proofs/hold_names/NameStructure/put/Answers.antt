@@ -8,7 +8,8 @@ pub invariant_of-tables : goal.invariant_of-tables
 invariant_of-tables c =
     let e = names_within (vec_items c.tables.inside.bytes.held) (vec_items c.tables.inside.names.held) c.args.self.now.bytes.now c.tables.invariant.named in
     let h : list_all (within (length (vec_items c.extend-span.new.self.held))) (vec_items c.push.new.self.held) ≡ true = cc in
-    record { named = h; listed = c.tables.invariant.listed }
+    let i = c.tables.invariant in
+    record { named = h; listed = i.listed; termed = i.termed; shared = i.shared; elements = i.elements; attributes = i.attributes; patterns = i.patterns }
 
 pub returns : goal.returns
 returns c =
