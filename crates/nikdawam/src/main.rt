@@ -115,12 +115,22 @@ fn execute(rt: &HostRuntime) -> Result<(), Failure> {
     Ok(())
 }
 
+// Says why. Where the message on an argument cannot be written, why not may still find room.
+fn tell(rt: &HostRuntime, failure: &Failure) -> io::Result<()> {
+    match (eprintln!(rt; "nikdawam: {failure}"), failure) {
+        (Err(error), Failure::Usage { .. } | Failure::File { .. }) => {
+            eprintln!(rt; "nikdawam: {error}")
+        }
+        (told, _) => told,
+    }
+}
+
 fn main(rt: HostRuntime) -> ExitCode {
     match execute(&rt) {
         Ok(()) => ExitCode::SUCCESS,
         Err(failure) => {
-            // Where the message cannot be written, the status still tells.
-            let _ = eprintln!(rt; "nikdawam: {failure}");
+            // Where no message can be written, the status still tells.
+            let _ = tell(&rt, &failure);
             ExitCode::FAILURE
         }
     }

@@ -2,3 +2,4 @@ mod Blanks
 mod Digits
 mod Replies
 mod PartTexts
+mod PlainRuns

@@ -36,7 +36,7 @@ fn enter_fields(
     state: &mut State,
     fields: &[FieldForm],
 ) -> Result<Vec<FieldType>, CompileError> {
-    let mut entered = Vec::new(heap);
+    let mut entered = Vec::with_capacity(heap, fields.len())?;
     for field in fields {
         let name = state.name(field.name.as_bytes())?;
         let ty = enter_type(heap, state, &field.ty)?;

@@ -1,5 +1,5 @@
-// A line that was read, as a tree of forms.
-ghost use Rattle.std.specs.Prelude.{◌≡◌, [], ◌∷◌, IfOk};
+// A line that was read, as a tree of forms, which lends the line's bytes.
+ghost use Rattle.std.specs.Prelude.{◌≡◌, [], ◌∷◌, length, IfOk};
 ghost use Rattle.script.specs.Forms.{StandWithin};
 
 use crate::fault::*;
@@ -8,29 +8,31 @@ use std::str::from_utf8;
 
 #[derive(Drop)]
 #[cycle(forms)]
-pub struct Form {
+pub struct Form<'a> {
     // Of its first byte, from 1.
     pub column: usize,
-    pub content: Content,
+    pub content: Content<'a>,
 }
 
 #[derive(Drop)]
 #[cycle(forms)]
-pub enum Content {
-    Atom(Vec<u8>),
-    // The bytes between the quotes, with the escapes resolved.
-    Text(Vec<u8>),
-    List(Vec<Form>),
+pub enum Content<'a> {
+    Atom(&'a [u8]),
+    // The bytes between the quotes, where none of them is of an escape.
+    Text(&'a [u8]),
+    // The bytes of a text with escapes, each resolved.
+    Resolved(Vec<u8>),
+    List(Vec<Form<'a>>),
 }
 
-impl Form {
+impl<'a> Form<'a> {
     pub fn bad(&self, message: &'static str) -> Fault {
         Fault::bad(self.column, message)
     }
 
     pub fn atom(&self) -> Option<&[u8]> {
         match &self.content {
-            Content::Atom(bytes) => Some(bytes.as_slice()),
+            Content::Atom(bytes) => Some(*bytes),
             _ => None,
         }
     }
@@ -38,7 +40,8 @@ impl Form {
     // A name is a text or an atom.
     pub fn name(&self) -> Result<&str, Fault> {
         let bytes = match &self.content {
-            Content::Atom(bytes) | Content::Text(bytes) => bytes.as_slice(),
+            Content::Atom(bytes) | Content::Text(bytes) => *bytes,
+            Content::Resolved(bytes) => bytes.as_slice(),
             Content::List(_) => return Err(self.bad("no name")),
         };
         from_utf8(bytes).map_err(|_| self.bad("a name that is not UTF-8"))
@@ -51,7 +54,7 @@ impl Form {
     }
 
     // The parts of a list. What is no list is refused with the message.
-    pub fn parts(&self, no_list: &'static str) -> Result<Parts<'_>, Fault>
+    pub fn parts(&self, no_list: &'static str) -> Result<Parts<'_, 'a>, Fault>
         ensures { IfOk result (λ p. StandWithin (p.first.now ∷ p.others.now) self.now) }
     {
         let Content::List(parts) = &self.content else {
@@ -70,29 +73,34 @@ impl Form {
 
 // The parts of a list: the first, which is its word, and the others.
 #[derive(Clone, Copy)]
-pub struct Parts<'a> {
-    list: &'a Form,
-    pub first: &'a Form,
-    pub others: &'a [Form],
+pub struct Parts<'f, 'a> {
+    list: &'f Form<'a>,
+    pub first: &'f Form<'a>,
+    pub others: &'f [Form<'a>],
 }
 
-impl<'a> Parts<'a> {
+impl<'f, 'a> Parts<'f, 'a> {
     // The others, of which there have to be so many.
-    pub fn exactly<const N: usize>(&self) -> Result<&'a [Form; N], Fault>
-        ensures { IfOk result (λ a. a.now ≡ self.now.others.now) }
+    pub fn exactly(&self, count: usize) -> Result<&'f [Form<'a>], Fault>
+        ensures { IfOk result (λ parts. (parts.now ≡ self.now.others.now) × (length parts.now ≡ count)) }
     {
-        match self.others.split_first_chunk() {
-            Some((parts, [])) => Ok(parts),
-            Some((_, [more, ..])) => Err(more.bad("a list with a part too many")),
-            None => Err(self.list.bad("a list with a part too few")),
+        if let Some(more) = self.others.get(count) {
+            return Err(more.bad("a list with a part too many"));
         }
+        if self.others.len() < count {
+            return Err(self.list.bad("a list with a part too few"));
+        }
+        Ok(self.others)
     }
 
     // The only one of the others.
-    pub fn only(&self) -> Result<&'a Form, Fault>
+    pub fn only(&self) -> Result<&'f Form<'a>, Fault>
         ensures { IfOk result (λ part. self.now.others.now ≡ part.now ∷ []) }
     {
-        let [part] = self.exactly::<1>()?;
-        Ok(part)
+        match self.others {
+            [part] => Ok(part),
+            [_, more, ..] => Err(more.bad("a list with a part too many")),
+            [] => Err(self.list.bad("a list with a part too few")),
+        }
     }
 }

@@ -58,38 +58,51 @@ impl Next {
 enum Mode {
     Between,
     Atom,
+    // In a text without an escape so far, and in one that had one.
     Text,
+    Resolved,
     // After `\`, after `\x`, and after `\x` with a digit.
     Escape,
     HighDigit,
     LowDigit(u8),
 }
 
-// A list whose closing parenthesis is still to come, with its parts so far.
-#[derive(Drop)]
+// A list whose closing parenthesis is still to come.
+#[derive(Clone, Copy)]
 struct Open {
     column: usize,
-    parts: Vec<Form>,
+    // How many forms stand before its parts.
+    before: usize,
 }
 
 #[derive(Drop)]
-struct Reader {
+struct Reader<'a> {
     heap: Global,
-    // The form of the line, once it is whole.
-    form: Option<Form>,
+    line: &'a [u8],
+    // The whole forms that no whole list has taken: the parts of the open lists, an inner list's behind those of
+    // the list around it, or the form of the line.
+    forms: Vec<Form<'a>>,
     // The innermost list is the last.
     open: Vec<Open>,
     mode: Mode,
-    // Where the atom or text at hand begins, and its bytes so far.
+    // Where the atom or text at hand begins.
     column: usize,
+    // Its bytes so far, if it is a text that had an escape.
     bytes: Vec<u8>,
 }
 
-impl Reader {
-    fn new(heap: Global) -> Reader {
+// The bytes of a line from a column on, up to another one.
+fn bytes_between(line: &[u8], from: usize, to: usize) -> &[u8] {
+    line.get(from.saturating_sub(1)..to.saturating_sub(1))
+        .unwrap_or(&[])
+}
+
+impl<'a> Reader<'a> {
+    fn new(heap: Global, line: &'a [u8]) -> Reader<'a> {
         Reader {
             heap,
-            form: None,
+            line,
+            forms: Vec::new(heap),
             open: Vec::new(heap),
             mode: Mode::Between,
             column: 0,
@@ -99,7 +112,7 @@ impl Reader {
 
     // A form may begin within a list, or as the only one of its line.
     fn check_place(&self, next: Next) -> Result<(), Fault> {
-        if self.open.is_empty() && self.form.is_some() {
+        if self.open.is_empty() && !self.forms.is_empty() {
             return Err(next.bad("a second form on the line"));
         }
         Ok(())
@@ -112,23 +125,22 @@ impl Reader {
         Ok(())
     }
 
-    // Adds a whole form to the innermost open list, or as that of the line.
-    fn add(&mut self, column: usize, content: Content) -> Result<(), Fault> {
-        let form = Form { column, content };
-        match self.open.last_mut() {
-            Some(list) => list.parts.push(form)?,
-            None => self.form = Some(form),
-        }
+    // Adds a whole form.
+    fn add(&mut self, column: usize, content: Content<'a>) -> Result<(), Fault> {
+        self.forms.push(Form { column, content })?;
         Ok(())
     }
 
-    // Adds the atom or text at hand, whose bytes are all there.
-    fn end<F: FnOnce(Vec<u8>) -> Content>(&mut self, content: F) -> Result<(), Fault>
-        requires { F.IsAlwaysCallable content }
-    {
-        let bytes = mem::replace(&mut self.bytes, Vec::new(self.heap));
+    // Adds the atom or text at hand.
+    fn end(&mut self, content: Content<'a>) -> Result<(), Fault> {
         self.mode = Mode::Between;
-        self.add(self.column, content(bytes))
+        self.add(self.column, content)
+    }
+
+    // Adds the atom at hand, which ends before the column.
+    fn end_atom(&mut self, column: usize) -> Result<(), Fault> {
+        let atom = bytes_between(self.line, self.column, column);
+        self.end(Content::Atom(atom))
     }
 
     fn open_list(&mut self, next: Next) -> Result<(), Fault> {
@@ -138,15 +150,19 @@ impl Reader {
         }
         self.open.push(Open {
             column: next.column,
-            parts: Vec::new(self.heap),
+            before: self.forms.len(),
         })?;
         Ok(())
     }
 
+    // Takes the parts off, into a Vec of their number. A list's parts stand behind the forms before them; `min` is how the
+    // proof knows it.
     fn close_list(&mut self, next: Next) -> Result<(), Fault> {
-        let Some(Open { column, parts }) = self.open.pop() else {
+        let Some(Open { column, before }) = self.open.pop() else {
             return Err(next.bad("a closing parenthesis too many"));
         };
+        let before = before.min(self.forms.len());
+        let parts = self.forms.split_off(before)?;
         self.add(column, Content::List(parts))
     }
 
@@ -156,35 +172,49 @@ impl Reader {
             b')' => self.close_list(next),
             b'"' => self.begin(next, Mode::Text),
             byte if is_blank(byte) => Ok(()),
-            byte => {
-                self.begin(next, Mode::Atom)?;
-                self.keep(byte)
-            }
+            _ => self.begin(next, Mode::Atom),
         }
-    }
-
-    fn keep(&mut self, byte: u8) -> Result<(), Fault> {
-        self.bytes.push(byte)?;
-        Ok(())
     }
 
     fn in_atom(&mut self, next: Next) -> Result<(), Fault> {
         if is_blank(next.byte) || matches!(next.byte, b'(' | b')' | b'"') {
-            self.end(Content::Atom)?;
+            self.end_atom(next.column)?;
             return self.between(next);
         }
-        self.keep(next.byte)
+        Ok(())
     }
 
-    fn in_text(&mut self, byte: u8) -> Result<(), Fault> {
+    // The bytes of a text are the line's until an escape comes, and kept from then on.
+    fn in_text(&mut self, next: Next) -> Result<(), Fault> {
+        let text = bytes_between(self.line, self.column.saturating_add(1), next.column);
+        match next.byte {
+            b'"' => self.end(Content::Text(text)),
+            b'\\' => {
+                self.mode = Mode::Escape;
+                self.bytes.extend_from_slice(text)?;
+                Ok(())
+            }
+            _ => Ok(()),
+        }
+    }
+
+    fn in_resolved(&mut self, byte: u8) -> Result<(), Fault> {
         match byte {
-            b'"' => self.end(Content::Text),
+            b'"' => {
+                let bytes = mem::replace(&mut self.bytes, Vec::new(self.heap));
+                self.end(Content::Resolved(bytes))
+            }
             b'\\' => {
                 self.mode = Mode::Escape;
                 Ok(())
             }
             _ => self.keep(byte),
         }
+    }
+
+    fn keep(&mut self, byte: u8) -> Result<(), Fault> {
+        self.bytes.push(byte)?;
+        Ok(())
     }
 
     fn in_escape(&mut self, next: Next) -> Result<(), Fault> {
@@ -199,7 +229,8 @@ impl Reader {
         match self.mode {
             Mode::Between => self.between(next),
             Mode::Atom => self.in_atom(next),
-            Mode::Text => self.in_text(next.byte),
+            Mode::Text => self.in_text(next),
+            Mode::Resolved => self.in_resolved(next.byte),
             Mode::Escape => self.in_escape(next),
             Mode::HighDigit => {
                 self.mode = Mode::LowDigit(next.hex_digit()?);
@@ -207,29 +238,30 @@ impl Reader {
             }
             Mode::LowDigit(high) => {
                 let low = next.hex_digit()?;
-                self.mode = Mode::Text;
+                self.mode = Mode::Resolved;
                 self.keep(high << 4 | low)
             }
         }
     }
 
     // The form of the line, which ends at the column past its last byte.
-    fn finish(mut self, column: usize) -> Result<Form, Fault> {
+    fn finish(mut self, column: usize) -> Result<Form<'a>, Fault> {
         match self.mode {
             Mode::Between => {}
-            Mode::Atom => self.end(Content::Atom)?,
+            Mode::Atom => self.end_atom(column)?,
             _ => return Err(Fault::bad(column, "a string is not closed")),
         }
         if !self.open.is_empty() {
             return Err(Fault::bad(column, "a parenthesis is not closed"));
         }
-        let Reader { form, .. } = self;
-        form.ok_or_else(|| Fault::bad(column, "no form on the line"))
+        self.forms
+            .pop()
+            .ok_or_else(|| Fault::bad(column, "no form on the line"))
     }
 }
 
-pub fn read_line(heap: Global, line: &[u8]) -> Result<Form, Fault> {
-    let mut reader = Reader::new(heap);
+pub fn read_line(heap: Global, line: &[u8]) -> Result<Form<'_>, Fault> {
+    let mut reader = Reader::new(heap, line);
     for (column, byte) in (1..).zip(line) {
         reader.step(Next {
             column,

@@ -24,7 +24,7 @@ fn read_capacities(parts: &Parts) -> Result<Capacities, Fault> {
         // One past a usize is refused as too large, as the largest usize is.
         *number = usize::try_from(argument.number()?).unwrap_or(usize::MAX);
     }
-    parts.exactly::<6>()?;
+    parts.exactly(6)?;
     let [terms, types, names, bytes, lists, rows] = numbers;
     Ok(Capacities {
         terms,
@@ -38,11 +38,11 @@ fn read_capacities(parts: &Parts) -> Result<Capacities, Fault> {
 
 // A request with no argument.
 fn alone<'a>(parts: &Parts, request: Request<'a>) -> Result<Request<'a>, Fault> {
-    parts.exactly::<0>()?;
+    parts.exactly(0)?;
     Ok(request)
 }
 
-pub fn read_request(heap: Global, line: &Form) -> Result<Request<'_>, Fault> {
+pub fn read_request<'a>(heap: Global, line: &'a Form) -> Result<Request<'a>, Fault> {
     let parts = line.parts("no request")?;
     match parts.first.atom() {
         Some(b"open") => Ok(Request::Open(read_capacities(&parts)?)),

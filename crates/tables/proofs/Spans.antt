@@ -1,7 +1,7 @@
 -- Lists in the tables that hold them.
 use Rattle.std.proofs.Common.{◌≡◌, ℕ, ◌+◌, ◌≤◌, Bool, true, List, [], ◌∷◌, ◌++◌, map, length, take, drop, refl, ap, ◌∙◌, ap₂, arith, length-append, length-drop, le-leb, leb-true}
 use Rattle.std.proofs.lemmas.Bool.{and_parts, and_from}
-use Rattle.std.proofs.lemmas.List.{take_all, take-append-le, drop-append-le, drop_at, map_push}
+use Rattle.std.proofs.lemmas.List.{take_all, length-take, take-append-le, drop-append-le, drop_at, map_push}
 use Rattle.tables.specs.declared.span.Span.{Span}
 use Rattle.tables.specs.declared.term_type.TermType.{TermType}
 use Rattle.tables.specs.declared.term_type.TermType.TheVariants.{Record}
@@ -30,6 +30,14 @@ module _ {X : Type 0} where
   -- One more element read by f, where those before it read by f as by g.
   pub map_behind : {Y : Type 0} (p : X → Bool) (f g : X → Y) → ((x : X) → p x ≡ true → f x ≡ g x) → (xs : List X) (x : X) → list_all p xs ≡ true → map f (xs ++ x ∷ []) ≡ map g xs ++ f x ∷ []
   map_behind p f g e xs x h = map_push f xs x ∙ ap (λ l. l ++ f x ∷ []) (map_list_all p f g e xs h)
+
+-- A record's fields are a part of the list cells, and no more than they are.
+pub fields_fit : {X : Type 0} (xs : List X) (t : TermType Span) → length (fields_of (with_fields (part xs) t)) ≤ length xs
+fields_fit xs (Record s) =
+    let c = length-take s.count (drop s.first xs) in
+    let d = length-drop s.first xs in
+    omega arith
+fields_fit xs t = omega arith
 
 -- What is put behind changes no part that lay within the list.
 pub part_kept : {X : Type 0} (xs ys : List X) (s : Span) → within (length xs) s ≡ true → part (xs ++ ys) s ≡ part xs s

@@ -41,21 +41,26 @@ impl<T, const MAX: usize> Cells<T, MAX> {
         requires { length self.old.held.items < self.old.capacity }
         ensures held { self.new.held.items ≡ self.old.held.items ++ cell ∷ [] }
         ensures capacity { self.new.capacity ≡ self.old.capacity }
+        ensures room { vec_capacity self.new.held ≡ vec_capacity self.old.held }
     {
         self.held.push_reserved(cell);
     }
 }
 
 impl<T: Copy, const MAX: usize> Cells<T, MAX> {
-    // Puts cells behind, where so many are free, and says where they lie.
+    // Puts cells behind, where so many are free, and says where they lie. One push for each, since `extend_from_slice`
+    // does not promise to stay within the memory that is reserved.
     pub(crate) fn extend(&mut self, cells: &[T]) -> Span
         requires { length cells.now ≤ self.old.capacity - length self.old.held.items }
         ensures held { self.new.held.items ≡ self.old.held.items ++ cells.now }
         ensures capacity { self.new.capacity ≡ self.old.capacity }
+        ensures room { vec_capacity self.new.held ≡ vec_capacity self.old.held }
         ensures span { result ≡ record { first = length self.old.held.items; count = length cells.now } }
     {
         let first = self.len();
-        self.held.extend_from_slice(cells).unwrap();
+        for cell in cells {
+            self.push(*cell);
+        }
         // As in `len`, nothing is lost.
         Span {
             first,

@@ -1,5 +1,5 @@
-ghost use Rattle.std.specs.Prelude.{◌≡◌};
-ghost use Rattle.tables.specs.Types.{type_of};
+ghost use Rattle.std.specs.Prelude.{◌≡◌, ◌≤◌, length};
+ghost use Rattle.tables.specs.Types.{type_of, fields_of};
 ghost use Rattle.tables.specs.Terms.{term_of, with_term};
 ghost use Rattle.tables.specs.Contents.{name_at, type_at, entry_at};
 
@@ -12,7 +12,8 @@ use crate::term_type::*;
 impl Tables {
     // The bytes of a name; none past the end.
     pub fn name(&self, n: NameId) -> &[u8]
-        ensures { result.now ≡ name_at self.now n.0 }
+        ensures value { result.now ≡ name_at self.now n.0 }
+        ensures fits { length result.now ≤ self.now.bytes }
     {
         match self.names.held.get(usize::from(n.0)) {
             Some(span) => part(&self.bytes.held, *span),
@@ -22,7 +23,8 @@ impl Tables {
 
     // The type of a number; Bool past the end.
     pub fn term_type(&self, t: TypeId) -> TermType<&[FieldType]>
-        ensures { type_of result ≡ type_at self.now t.0 }
+        ensures value { type_of result ≡ type_at self.now t.0 }
+        ensures fits { length (fields_of (type_of result)) ≤ self.now.lists }
     {
         let fields = self.fields.held.as_slice();
         match self.types.held.get(usize::from(t.0)) {

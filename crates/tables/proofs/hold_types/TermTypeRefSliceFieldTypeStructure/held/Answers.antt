@@ -9,4 +9,4 @@ use Rattle.tables.proofs.hold_types.TermTypeRefSliceFieldTypeStructure.held.Goal
 pub returns : goal.returns
 returns c =
     c.eq.ensures ∙ eq-same_type (shr_slice_field (record { mir = erased; lft = [] }) the_row tt).row _ (λ x. x.now) (λ x y. refl) c.term_type.result c.args.self.now
-    ∙ ap (λ t. same_type t (type_of c.args.self.now)) c.term_type.ensures
+    ∙ ap (λ t. same_type t (type_of c.args.self.now)) c.term_type.ensures.value
